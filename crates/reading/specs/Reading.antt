@@ -1,0 +1,90 @@
+-- Reading from left to right: what is due, and the fault where it is not there. Assumes nothing.
+use mathlib.Core.Bool.{Bool, true, false, cond}
+use mathlib.Core.List.{List, [], _∷_}
+use Prim.Native.Nat.{ℕ, zero, suc}
+use lib.Dec.{eqb}
+use lib.ListN.{drop}
+use Rattle.std.specs.declared.option.Option.{Option}
+use Rattle.std.specs.declared.option.Option.the-variants.{Some, None}
+use Rattle.std.specs.declared.result.Result.{Result}
+use Rattle.std.specs.declared.result.Result.the-variants.{Ok, Err}
+use Rattle.faults.specs.declared.Refusal.{Refusal}
+use Rattle.faults.specs.declared.Refusal.the-variants as refusal
+use Rattle.faults.specs.declared.TextFault.{TextFault}
+use Rattle.faults.specs.Faults.{textFaultOf}
+use Rattle.groups.specs.declared.items.Item.{Item}
+use Rattle.groups.specs.declared.items.Sign.{Sign}
+use Rattle.groups.specs.declared.items.Sign.the-variants.{Plus, Minus, Star}
+use Rattle.groups.specs.declared.group.Group.{Group}
+use Rattle.groups.specs.Groups.{itemsOf}
+use Rattle.groups.specs.Items.{names, insert}
+use Rattle.reading.specs.Numbers.{run, digitsOf, plateOf}
+use Rattle.reading.specs.Tokens.{symbol, byteAt}
+
+infixl 10 _>>=_
+
+-- a step, and another where it is not refused
+abbrev pub _>>=_ : {A B : Type 0} → Result A TextFault → (A → Result B TextFault) → Result B TextFault
+_>>=_ (Ok x) f = f x
+_>>=_ (Err e) f = Err e
+
+-- a number is due: 2 where there is none; of an item 5 where no room is left, then 4 for a plate named before
+abbrev pub numberDue : ℕ → List ℕ → Result ℕ TextFault
+numberDue at ds = elim (plateOf ds) [ None ↦ Err (textFaultOf refusal.Number at) | Some p ↦ Ok p ]
+
+abbrev pub plateDue : ℕ → List Item → ℕ → List ℕ → Result ℕ TextFault
+plateDue room seen at ds = numberDue at ds >>= λ p. cond (eqb room 0) (Err (textFaultOf refusal.Ninth at)) (cond (names seen p) (Err (textFaultOf refusal.Repeated at)) (Ok p))
+
+-- the sign that a byte spells
+abbrev pub signOf : ℕ → Option Sign
+signOf b = cond (eqb b 43) (Some Plus) (cond (eqb b 45) (Some Minus) (cond (eqb b 42) (Some Star) None))
+
+-- a sign is due
+abbrev pub signDue : ℕ → Option ℕ → Result Sign TextFault
+signDue at None = Err (textFaultOf refusal.Mark at)
+signDue at (Some b) = elim (signOf b) [ None ↦ Err (textFaultOf refusal.Mark at) | Some s ↦ Ok s ]
+
+-- the end is due
+abbrev pub endDue : ℕ → List ℕ → Result (Unit {0}) TextFault
+endDue at [] = Ok tt
+endDue at (b ∷ bs) = Err (textFaultOf refusal.Mark at)
+
+-- a space, and then one more item, or the closing bracket and then the end
+abbrev pub moreBy : ℕ → Option ℕ → List ℕ → Result Bool TextFault
+moreBy at None rest = Err (textFaultOf refusal.Mark at)
+moreBy at (Some b) rest = cond (eqb b 32) (Ok true) (cond (eqb b 41) (endDue (byteAt at 1) rest >>= λ _. Ok false) (Err (textFaultOf refusal.Mark at)))
+
+abbrev pub moreDue : ℕ → List ℕ → Result Bool TextFault
+moreDue at text = moreBy at (symbol text) (drop 1 text)
+
+-- the items seen, with those that are read where an item is due and there is room for so many
+unfoldable pub readItems : ℕ → List Item → ℕ → List ℕ → Result (List Item) TextFault
+readItems zero seen at text = plateDue 0 seen at (digitsOf text) >>= λ p. Ok seen
+readItems (suc room) seen at text =
+    let text₁ = drop (run text) text in
+    let at₁ = byteAt at (run text) in
+    plateDue (suc room) seen at (digitsOf text) >>= λ p.
+        signDue at₁ (symbol text₁) >>= λ s.
+            moreDue (byteAt at₁ 1) (drop 1 text₁) >>= λ more.
+                elim more [
+                  true ↦ readItems room (insert (record { plate = p; sign = s }) seen) (byteAt (byteAt at₁ 1) 1) (drop 1 (drop 1 text₁))
+                | false ↦ Ok (insert (record { plate = p; sign = s }) seen)
+                ]
+
+-- an opening bracket is due
+abbrev pub openDue : ℕ → Option ℕ → Result (Unit {0}) TextFault
+openDue at None = Err (textFaultOf refusal.Mark at)
+openDue at (Some b) = cond (eqb b 40) (Ok tt) (Err (textFaultOf refusal.Mark at))
+
+-- the group that a text spells from its first byte, which stands at a place, to its end
+abbrev pub readGroup : ℕ → List ℕ → Result (List Item) TextFault
+readGroup at text = openDue at (symbol text) >>= λ _. readItems 8 [] (byteAt at 1) (drop 1 text)
+
+-- the number that a text spells from its first byte to its end
+abbrev pub readPlate : ℕ → List ℕ → Result ℕ TextFault
+readPlate at text = numberDue at (digitsOf text) >>= λ p. (endDue (byteAt at (run text)) (drop (run text) text) >>= λ _. Ok p)
+
+-- what an answer holds, by its items
+abbrev pub heldBy : Result Group TextFault → Result (List Item) TextFault
+heldBy (Ok g) = Ok (itemsOf g)
+heldBy (Err f) = Err f

@@ -28,21 +28,33 @@ abbrev pub _>>=_ : {A B : Type 0} → Result A TextFault → (A → Result B Tex
 _>>=_ (Ok x) f = f x
 _>>=_ (Err e) f = Err e
 
--- a number is due: 2 where there is none; of an item 5 where no room is left, then 4 for a plate named before
+-- a number is due
+abbrev pub numbered : ℕ → Option ℕ → Result ℕ TextFault
+numbered at None = Err (textFaultOf refusal.Number at)
+numbered at (Some p) = Ok p
+
 abbrev pub numberDue : ℕ → List ℕ → Result ℕ TextFault
-numberDue at ds = elim (plateOf ds) [ None ↦ Err (textFaultOf refusal.Number at) | Some p ↦ Ok p ]
+numberDue at ds = numbered at (plateOf ds)
+
+-- the number of an item: no room may be wanting, and then the plate must be new
+abbrev pub itemNumber : ℕ → List Item → ℕ → ℕ → Result ℕ TextFault
+itemNumber room seen at p = cond (eqb room 0) (Err (textFaultOf refusal.Ninth at)) (cond (names seen p) (Err (textFaultOf refusal.Repeated at)) (Ok p))
 
 abbrev pub plateDue : ℕ → List Item → ℕ → List ℕ → Result ℕ TextFault
-plateDue room seen at ds = numberDue at ds >>= λ p. cond (eqb room 0) (Err (textFaultOf refusal.Ninth at)) (cond (names seen p) (Err (textFaultOf refusal.Repeated at)) (Ok p))
+plateDue room seen at ds = numberDue at ds >>= itemNumber room seen at
 
 -- the sign that a byte spells
 abbrev pub signOf : ℕ → Option Sign
 signOf b = cond (eqb b 43) (Some Plus) (cond (eqb b 45) (Some Minus) (cond (eqb b 42) (Some Star) None))
 
 -- a sign is due
+abbrev pub signed : ℕ → Option Sign → Result Sign TextFault
+signed at None = Err (textFaultOf refusal.Mark at)
+signed at (Some s) = Ok s
+
 abbrev pub signDue : ℕ → Option ℕ → Result Sign TextFault
 signDue at None = Err (textFaultOf refusal.Mark at)
-signDue at (Some b) = elim (signOf b) [ None ↦ Err (textFaultOf refusal.Mark at) | Some s ↦ Ok s ]
+signDue at (Some b) = signed at (signOf b)
 
 -- the end is due
 abbrev pub endDue : ℕ → List ℕ → Result (Unit {0}) TextFault
@@ -57,19 +69,21 @@ moreBy at (Some b) rest = cond (eqb b 32) (Ok true) (cond (eqb b 41) (endDue (by
 abbrev pub moreDue : ℕ → List ℕ → Result Bool TextFault
 moreDue at text = moreBy at (symbol text) (drop 1 text)
 
+-- what is due behind an item, and what follows if it is a space: the items are `held` by then
+abbrev pub itemsFrom : (ℕ → List ℕ → Result (List Item) TextFault) → List Item → ℕ → List ℕ → Bool → Result (List Item) TextFault
+itemsFrom next held at text true = next (byteAt at 1) (drop 1 text)
+itemsFrom next held at text false = Ok held
+
 -- the items seen, with those that are read where an item is due and there is room for so many
 unfoldable pub readItems : ℕ → List Item → ℕ → List ℕ → Result (List Item) TextFault
 readItems zero seen at text = plateDue 0 seen at (digitsOf text) >>= λ p. Ok seen
 readItems (suc room) seen at text =
-    let text₁ = drop (run text) text in
     let at₁ = byteAt at (run text) in
+    let text₁ = drop (run text) text in
     plateDue (suc room) seen at (digitsOf text) >>= λ p.
         signDue at₁ (symbol text₁) >>= λ s.
-            moreDue (byteAt at₁ 1) (drop 1 text₁) >>= λ more.
-                elim more [
-                  true ↦ readItems room (insert (record { plate = p; sign = s }) seen) (byteAt (byteAt at₁ 1) 1) (drop 1 (drop 1 text₁))
-                | false ↦ Ok (insert (record { plate = p; sign = s }) seen)
-                ]
+            let held = insert (record { plate = p; sign = s }) seen in
+            moreDue (byteAt at₁ 1) (drop 1 text₁) >>= itemsFrom (readItems room held) held (byteAt at₁ 1) (drop 1 text₁)
 
 -- an opening bracket is due
 abbrev pub openDue : ℕ → Option ℕ → Result (Unit {0}) TextFault

@@ -46,7 +46,7 @@ same-ok x y h = cc
 pub same-err : {A : Type 0} (x y : TextFault) → _≡_ {A = Result A TextFault} (Err x) (Err y) → x ≡ y
 same-err x y h = cc
 
-none-not-some : {A : Type 0} (x : A) → _≡_ {A = Option A} None (Some x) → ⊥
+pub none-not-some : {A : Type 0} (x : A) → _≡_ {A = Option A} None (Some x) → ⊥
 none-not-some x h = let z : _≡_ {A = ℕ} 0 1 = cc in omega arith
 
 -- a number that is taken for an item

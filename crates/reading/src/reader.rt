@@ -5,6 +5,7 @@ ghost use Prim.Native.Nat.{_+_, _≤_};
 ghost use lib.ListN.{length};
 ghost use Rattle.std.specs.shelf.Text.{allDigits};
 ghost use Rattle.groups.specs.Groups.{itemsOf};
+ghost use Rattle.reading.specs.Grammar.{RightAnswer, RightNumber};
 ghost use Rattle.reading.specs.Numbers.{plateOf};
 ghost use Rattle.reading.specs.Reading.{numberDue, plateDue, signDue, endDue, moreDue, openDue, readItems, readGroup, readPlate, heldBy};
 ghost use Rattle.reading.specs.Tokens.{tokenDigits, tokenPlace, tokenSymbol};
@@ -134,7 +135,8 @@ fn read_items(mut group: Group, room: usize, text: &[u8], at: usize) -> Result<G
 
 // Reads a group. The text's first byte stands at `start`, from which places count.
 pub fn read_group(text: &[u8], start: usize) -> Result<Group, TextFault>
-    ensures { λ r. ⌜ heldBy r ≡ readGroup start (now (text .entry)) ⌝ }
+    ensures value { λ r. ⌜ heldBy r ≡ readGroup start (now (text .entry)) ⌝ }
+    ensures right { λ r. ⌜ RightAnswer start (now (text .entry)) (heldBy r) ⌝ }
 {
     open_due(&next_token(text, start))?;
     read_items(Group::new(), MOST_READ, skip(text, 1), start.saturating_add(1))
@@ -142,7 +144,8 @@ pub fn read_group(text: &[u8], start: usize) -> Result<Group, TextFault>
 
 // Reads the number of a plate and the end. The text's first byte stands at `start`, from which places count.
 pub fn read_plate(text: &[u8], start: usize) -> Result<u32, TextFault>
-    ensures { λ r. ⌜ r ≡ readPlate start (now (text .entry)) ⌝ }
+    ensures value { λ r. ⌜ r ≡ readPlate start (now (text .entry)) ⌝ }
+    ensures right { λ r. ⌜ RightNumber start (now (text .entry)) r ⌝ }
 {
     let number = next_token(text, start);
     let plate = number_due(&number)?;

@@ -149,7 +149,7 @@ module _ (its : List Item) (apart : Apart [] its) where
   once : Once its
   once = apart-once [] its apart .0
 
-apart-of : (its : List Item) → Once its → Apart [] its
+pub apart-of : (its : List Item) → Once its → Apart [] its
 apart-of its o = once-apart [] its o (λ p h. refl)
 
 -- every text is answered by its group or by its fault
@@ -201,7 +201,7 @@ fronts-read start front its rest items apart few =
     ∙ ap (λ a. readItems (8 - length its) (gather [] its) a rest) (place-more start 1 (length front))
 
 -- a text that spells a group is read as that group
-spelled-read : (start : ℕ) (text : List ℕ) (g : List Item) → Spells text g → readGroup start text ≡ Ok g
+pub spelled-read : (start : ℕ) (text : List ℕ) (g : List Item) → Spells text g → readGroup start text ≡ Ok g
 spelled-read start text g h =
     let its = h .its in
     let x = item (h .p) (h .s) in

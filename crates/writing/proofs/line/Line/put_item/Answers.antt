@@ -1,0 +1,12 @@
+use mathlib.Core.Path.{ap, _∙_}
+use mathlib.Core.List.{[], _∷_, _++_}
+use Rattle.std.specs.Written.{decimal}
+use Rattle.reading.specs.Grammar.{markOf}
+use Rattle.writing.specs.Lines.{textOf, cut}
+use Rattle.writing.proofs.Cuts.{behind}
+use Rattle.writing.proofs.line.Line.put_item.Needs as need
+
+pub returns : need.returns
+returns c =
+    behind (textOf (c .args .self .now)) (decimal (c .args .item .plate)) (markOf (c .args .item .sign) ∷ []) (textOf (c .put-number .last .self)) (textOf (c .put .last .self)) (c .put-number .ensures)
+    (c .put .ensures ∙ ap (λ b. cut (textOf (c .put-number .last .self) ++ (b ∷ []))) (c .mark .ensures))

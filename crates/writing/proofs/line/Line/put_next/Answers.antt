@@ -1,0 +1,24 @@
+use mathlib.Core.Path.{_≡_, ap, sym, _∙_}
+use mathlib.Core.List.{[], _∷_, _++_, append-assoc}
+use lib.ListN.{take, getD}
+use Rattle.std.specs.Joined.{joined}
+use Rattle.std.proofs.shelf.Lists.{take-more, take-all, joined-more}
+use Rattle.groups.proofs.Rising.{blank}
+use Rattle.writing.specs.Lines.{textOf, cut}
+use Rattle.writing.specs.Texts.{itemText, nextText}
+use Rattle.writing.proofs.Cuts.{behind, nothing}
+use Rattle.writing.proofs.line.Line.put_next.Needs as need
+
+pub loop-item-holds : need.loop-item-holds
+loop-item-holds c = nothing (c .args .self .now .bytes) (c .args .self .now .len) (c .args .self .now .long) (c .args .self .now .few)
+
+pub loop-item-again : need.loop-item-again
+loop-item-again c =
+    let xs = take (c .loop-item .item-index) (c .args .items .now) in
+    let x = getD (c .args .items .now) (c .loop-item .item-index) blank in
+    let spaced = behind (textOf (c .args .self .now)) (joined nextText xs) (32 ∷ []) (textOf (c .loop-item .self)) (textOf (c .put .last .self)) (c .loop-item .inv) (c .put .ensures) in
+    behind (textOf (c .args .self .now)) (joined nextText xs ++ (32 ∷ [])) (itemText x) (textOf (c .put .last .self)) (textOf (c .put-item .last .self)) spaced (c .put-item .ensures)
+    ∙ ap (λ l. cut (textOf (c .args .self .now) ++ l)) (append-assoc (joined nextText xs) (32 ∷ []) (itemText x) ∙ joined-more nextText [] xs x ∙ ap (joined nextText) (sym (take-more (c .args .items .now) (c .loop-item .item-index) blank (c .loop-item-test .taken))))
+
+pub returns : need.returns
+returns c = c .loop-item .inv ∙ ap (λ l. cut (textOf (c .args .self .now) ++ joined nextText l)) (take-all (c .loop-item .item-index) (c .args .items .now) (c .loop-item-test .left))

@@ -1,0 +1,13 @@
+use mathlib.Core.Path.{ap, _∙_}
+use mathlib.Core.List.{_++_}
+use Rattle.std.specs.Written.{decimal}
+use Rattle.writing.specs.Lines.{cut}
+use Rattle.writing.proofs.Cuts.{cut-short}
+use Rattle.writing.proofs.Lengths.{number-short}
+use Rattle.writing.proofs.texts.number_line.Needs as need
+
+pub returns : need.returns
+returns c =
+    c .put-number .ensures
+    ∙ ap (λ l. cut (l ++ decimal (c .args .number))) (c .new-line .ensures)
+    ∙ cut-short (decimal (c .args .number)) (number-short (c .args .number) (c .fits .number .fits))

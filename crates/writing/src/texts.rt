@@ -51,8 +51,17 @@ impl Line {
         }
     }
 
+    // Puts a text behind the text, as far as the line holds it.
+    pub fn put_text(&mut self, text: &[u8])
+        ensures { λ _. ⌜ textOf (now (self .exit)) ≡ cut (textOf (now (self .entry)) ++ now (text .entry)) ⌝ }
+    {
+        for byte in text {
+            self.put(*byte);
+        }
+    }
+
     // Puts a number behind the text, as far as the line holds it.
-    pub fn put_number(&mut self, number: u32)
+    pub fn put_number(&mut self, number: u64)
         ensures { λ _. ⌜ textOf (now (self .exit)) ≡ cut (textOf (now (self .entry)) ++ decimal number) ⌝ }
     {
         if number < 10 {
@@ -67,7 +76,7 @@ impl Line {
     fn put_item(&mut self, item: Item)
         ensures { λ _. ⌜ textOf (now (self .exit)) ≡ cut (textOf (now (self .entry)) ++ itemText item) ⌝ }
     {
-        self.put_number(item.plate);
+        self.put_number(u64::from(item.plate));
         self.put(mark(item.sign));
     }
 
@@ -118,7 +127,7 @@ fn number_line(number: u32) -> Line
     ensures { λ r. ⌜ textOf r ≡ decimal number ⌝ }
 {
     let mut line = Line::new();
-    line.put_number(number);
+    line.put_number(u64::from(number));
     line
 }
 

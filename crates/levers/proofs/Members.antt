@@ -49,3 +49,7 @@ pub same-sets : (s t : Levers) → ((k : ℕ) → has s k ≡ has t k) → s ≡
 same-sets s t h =
     let e = same-digits (s .bits) (t .bits) (λ k. same-digit (s .bits / 2 ^ k % 2) (t .bits / 2 ^ k % 2) (omega arith) (omega arith) (h k)) in
     λ i. record { bits = e i }
+
+-- no place from 32 on is in a set
+pub none-high : (s : Levers) (k : ℕ) → s .bits < 2 ^ 32 → 32 ≤ k → has s k ≡ false
+none-high s k h l = ap (λ d. eqb d 1) (high-digit (s .bits) 32 k h l)

@@ -13,14 +13,16 @@ use Rattle.std.specs.declared.option.Option.the-variants.{Some, None}
 use Rattle.std.proofs.shelf.Tests.{and-parts, and-from, eq-eqb, ne-eqb, cond-true, cond-false, cases-lt}
 use Rattle.groups.specs.declared.items.Item.{Item}
 use Rattle.groups.specs.declared.items.Sign.{Sign}
-use Rattle.groups.specs.Items.{rising, signAt, covers}
+use Rattle.groups.specs.declared.items.Sign.the-variants.{Plus, Minus}
+use Rattle.groups.specs.Items.{rising, signAt, covers, joint, Combination}
 use Rattle.groups.proofs.Rising.{rising-step, rising-more, unnamed-below}
+use Rattle.levers.specs.Sets.{has}
 use Rattle.placed.specs.declared.Placed.{Placed}
 use Rattle.placed.specs.Rises.{climbing}
 use Rattle.placed.specs.Signs.{signOn, Within}
 use Rattle.placed.specs.Spelling.{itemIf, spellFrom, spell}
 use Rattle.placed.proofs.Climbing.{climbing-step, climbing-above, place-cases}
-use Rattle.placed.proofs.Ends.{sitsIf}
+use Rattle.placed.proofs.Ends.{sitsIf, ends-sit, sits-up, sits-down, same-groups}
 
 -- what rises from a plate on rises from below it
 rising-lower : (low p : ℕ) (xs : List Item) → low ≤ p → rising p xs ≡ true → rising low xs ≡ true
@@ -108,3 +110,48 @@ spelled-covers ps g h =
       (λ c j l. ap (λ n. sitsIf (signOn g n) (signAt h (getD ps j 0))) (let e : j ≡ 0 + j = omega arith in e) ∙ sits-from 0 ps g h c j l),
       (λ s. covers-from 0 ps g h (λ j l. ap (λ n. sitsIf (signOn g n) (signAt h (getD ps j 0))) (let e : 0 + j ≡ j = omega arith in e) ∙ s j l)),
     )
+
+-- groups within the plates that spell the same are the same
+pub same-spelled : (ps : List ℕ) (g h : Placed) → climbing 0 ps ≡ true → Within (length ps) g → Within (length ps) h → spell ps g ≡ spell ps h → g ≡ h
+same-spelled ps g h r v w e =
+    same-groups g h (λ k.
+      ⊎-elim
+      (λ l. sym (spelled-sign ps g k r l) ∙ ap (λ xs. signAt xs (getD ps k 0)) e ∙ spelled-sign ps h k r l)
+      (λ l. v k l ∙ sym (w k l))
+      (cases-lt k (length ps)))
+
+-- one group covers another where its ends are among the other's
+pub covers-ends : (ps : List ℕ) (g h : Placed) → climbing 0 ps ≡ true → Within (length ps) g → Decides (covers (spell ps g) (spell ps h)) (((k : ℕ) → has (g .up) k ≡ true → has (h .up) k ≡ true) × ((k : ℕ) → has (g .down) k ≡ true → has (h .down) k ≡ true))
+covers-ends ps g h r w =
+    (
+      (λ c. ((λ k. sits-up _ _ _ _ (sits c k)), (λ k. sits-down _ _ _ _ (sits c k)))),
+      (λ e. spelled-covers ps g (spell ps h) .1 (λ j l. ap (sitsIf (signOn g j)) (spelled-sign ps h j r l) ∙ ends-sit _ _ _ _ (e .0 j) (e .1 j))),
+    )
+  where
+    sits : covers (spell ps g) (spell ps h) ≡ true → (k : ℕ) → sitsIf (signOn g k) (signOn h k) ≡ true
+    sits c k =
+        ⊎-elim
+        (λ l. ap (sitsIf (signOn g k)) (sym (spelled-sign ps h k r l)) ∙ spelled-covers ps g (spell ps h) .0 c k l)
+        (λ l. ap (λ o. sitsIf o (signOn h k)) (w k l))
+        (cases-lt k (length ps))
+
+-- the combination on the plate at a place
+pub combined : (ps : List ℕ) (a b c : Placed) (i : ℕ) → climbing 0 ps ≡ true → i < length ps → signOn a i ≡ Some Plus → signOn b i ≡ Some Minus → ((k : ℕ) → signOn c k ≡ cond (eqb k i) None (joint (signOn a k) (signOn b k))) → Combination (getD ps i 0) (spell ps a) (spell ps b) (spell ps c)
+combined ps a b c i r l p m s =
+    record {
+      plus = spelled-sign ps a i r l ∙ p;
+      minus = spelled-sign ps b i r l ∙ m;
+      spelled = spelled-rises ps c r;
+      dropped = spelled-sign ps c i r l ∙ s i ∙ cond-true _ _ _ (eq-eqb i i refl);
+      others = λ q ne.
+        ⊎-elim
+        (λ f.
+            ap (signAt (spell ps c)) (sym (f .2))
+            ∙ spelled-sign ps c (f .0) r (f .1)
+            ∙ s (f .0)
+            ∙ cond-false _ _ _ (ne-eqb (f .0) i (λ e. ne (sym (f .2) ∙ ap (λ n. getD ps n 0) e)))
+            ∙ (λ z. joint (sym (spelled-sign ps a (f .0) r (f .1)) z) (sym (spelled-sign ps b (f .0) r (f .1)) z))
+            ∙ ap (λ n. joint (signAt (spell ps a) n) (signAt (spell ps b) n)) (f .2))
+        (λ n. spelled-none ps c q n ∙ (λ z. joint (sym (spelled-none ps a q n) z) (sym (spelled-none ps b q n) z)))
+        (place-cases ps q);
+    }

@@ -11,13 +11,13 @@ ghost use Rattle.std.specs.Options.{mapped};
 ghost use Rattle.std.specs.Orderings.{Decides};
 ghost use Rattle.std.specs.declared.option.Option.the-variants.{Some, None};
 ghost use Rattle.groups.specs.Items.{covers, CombinesTo};
+ghost use Rattle.groups.specs.declared.items.Sign.the-variants.{Plus, Minus};
 ghost use Rattle.placed.specs.Rises.{climbing};
 ghost use Rattle.placed.specs.Signs.{signOn, Within};
 ghost use Rattle.placed.specs.Spelling.{spell};
 use levers::Levers;
 use groups::items::Sign;
 use levers::LeversPartialEq;
-use groups::items::SignPartialEq;
 
 // A group by the ends of its levers: + has the upper end, - the lower, * both.
 #[derive(Clone, Copy, PartialEq, Eq)]
@@ -78,11 +78,18 @@ impl Placed {
     pub fn combine(self, other: Placed, place: usize) -> Option<Placed>
         ensures { λ r. ⌜ ((ps : List ℕ) → climbing 0 ps ≡ true → place < length ps → CombinesTo (getD ps place 0) (spell ps self) (spell ps other) (mapped (spell ps) r)) ⌝ }
     {
-        if self.sign(place) != Some(Sign::Plus) || other.sign(place) != Some(Sign::Minus) {
+        if !self.opposes(other, place) {
             return None;
         }
         let up = self.up.union(other.up).without(place);
         let down = self.down.union(other.down).without(place);
         Some(Placed { up, down })
+    }
+
+    // Whether this group has + on the lever at a place and the other -.
+    fn opposes(self, other: Placed, place: usize) -> bool
+        ensures { λ r. ⌜ Decides r ((signOn self place ≡ Some Plus) × (signOn other place ≡ Some Minus)) ⌝ }
+    {
+        self.up.has(place) && !self.down.has(place) && !other.up.has(place) && other.down.has(place)
     }
 }

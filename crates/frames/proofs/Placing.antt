@@ -1,0 +1,1 @@
+-- Groups into the frame and back: what the loops keep. Assumes nothing.

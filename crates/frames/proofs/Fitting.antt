@@ -9,10 +9,13 @@ use lib.Dec.{eqb}
 use lib.ListN.{length, getD, take}
 use Rattle.std.specs.Options.{mapped}
 use Rattle.std.specs.declared.option.Option.the-variants.{Some, None}
-use Rattle.std.proofs.shelf.Tests.{eq-eqb, ne-eqb, cond-true, cond-false, cases-eq}
+use Rattle.std.proofs.shelf.Tests.{eq-eqb, ne-eqb, lt-ltb, le-leb, lt-leb, and-from, cond-true, cond-false, cases-eq, cases-bool}
+use Rattle.std.proofs.shelf.Lists.{length-take-le, getD-take}
+use Rattle.faults.specs.declared.Refusal.the-variants.{NotAbove, FrameFull}
+use Rattle.groups.specs.Items.{isPlate}
 use Rattle.placed.specs.Rises.{climbing}
 use Rattle.placed.proofs.Climbing.{climbing-step, climbing-more, climbing-above, one-place, place-cases}
-use Rattle.frames.specs.Fitted.{placeIn}
+use Rattle.frames.specs.Fitted.{placeIn, fitRefusal}
 
 -- the first place of a plate
 pub place-first : (ps : List ℕ) (p i : ℕ) → i < length ps → getD ps i 0 ≡ p → ((k : ℕ) → k < i → getD ps k 0 ≡ p → ⊥) → placeIn ps p ≡ Some i
@@ -87,3 +90,42 @@ pub climbing-last : (low : ℕ) (ps : List ℕ) (p j : ℕ) → climbing low (ps
 climbing-last low [] p j r l = absurd (omega arith)
 climbing-last low (q ∷ qs) p zero r l = climbing-end q qs p (climbing-step low q (qs ++ (p ∷ [])) r .rest)
 climbing-last low (q ∷ qs) p (suc j) r l = climbing-last q qs p j (climbing-step low q (qs ++ (p ∷ [])) r .rest) (omega arith)
+
+-- one more plate behind the first n: what it climbs over, and why it is refused
+module _ (xs : List ℕ) (n p : ℕ) (within : n ≤ length xs) (rises : climbing 0 (take n xs) ≡ true) (some : p ≡ 0 → ⊥) (high : p ≤ 2097151) where
+  is-plate : isPlate p ≡ true
+  is-plate = and-from _ _ (lt-ltb 0 p (omega arith)) (le-leb p 2097151 high)
+
+  -- the last plate, as the code reads it
+  last-plate : (j : ℕ) → suc j ≡ n → getD xs (n - 1) 0 ≡ getD (take n xs) j 0
+  last-plate j e = ap (λ k. getD xs k 0) (let k : n - 1 ≡ j = omega arith in k) ∙ sym (getD-take n xs j 0 (omega arith))
+
+  pub climbs : (0 < n → getD xs (n - 1) 0 < p) → climbing 0 (take n xs ++ (p ∷ [])) ≡ true
+  climbs above =
+      climbing-push 0 (take n xs) p rises (omega arith) high (λ j e.
+        let l : suc j ≡ n = e ∙ length-take-le n xs within in
+        let q = last-plate j l in
+        let a = above (omega arith) in
+        omega arith)
+
+  pub refused-below : 0 < n → p ≤ getD xs (n - 1) 0 → fitRefusal (take n xs) p ≡ Some NotAbove
+  refused-below l below =
+      cond-false _ _ _ (ap not is-plate)
+      ∙ cond-true _ _ _ (ap not (⊎-elim (λ t. absurd (too-high t)) (λ f. f) (cases-bool (climbing 0 (take n xs ++ (p ∷ []))))))
+    where
+      too-high : climbing 0 (take n xs ++ (p ∷ [])) ≡ true → ⊥
+      too-high t =
+          let long = length-take-le n xs within in
+          let q = last-plate (n - 1) (omega arith) in
+          let a = climbing-last 0 (take n xs) p (n - 1) t (omega arith) in
+          omega arith
+
+  pub refused-full : (0 < n → getD xs (n - 1) 0 < p) → 32 ≤ n → fitRefusal (take n xs) p ≡ Some FrameFull
+  refused-full above full =
+      cond-false _ _ _ (ap not is-plate) ∙ cond-false _ _ _ (ap not (climbs above))
+      ∙ cond-true _ _ _ (le-leb 32 (length (take n xs)) (let long = length-take-le n xs within in omega arith))
+
+  pub not-refused : (0 < n → getD xs (n - 1) 0 < p) → n < 32 → fitRefusal (take n xs) p ≡ None
+  not-refused above few =
+      cond-false _ _ _ (ap not is-plate) ∙ cond-false _ _ _ (ap not (climbs above))
+      ∙ cond-false _ _ _ (lt-leb 32 (length (take n xs)) (let long = length-take-le n xs within in omega arith))

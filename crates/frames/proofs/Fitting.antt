@@ -1,11 +1,10 @@
 -- Where a plate stands among fitted ones, and one more plate behind them. Assumes nothing.
 use mathlib.Core.Path.{_≡_, refl, sym, ap, _∙_}
-use mathlib.Core.Bool.{true, false, cond, not}
+use mathlib.Core.Bool.{true, not}
 use mathlib.Core.List.{List, [], _∷_, _++_}
 use mathlib.Core.Logic.{⊎-elim}
 use Prim.Native.Nat.{ℕ, zero, suc, _-_, _<_, _≤_}
 use native.Mathlib.Omega.{arith}
-use lib.Dec.{eqb}
 use lib.ListN.{length, getD, take}
 use Rattle.std.specs.Options.{mapped}
 use Rattle.std.specs.declared.option.Option.the-variants.{Some, None}
@@ -15,7 +14,12 @@ use Rattle.faults.specs.declared.Refusal.the-variants.{NotAbove, FrameFull}
 use Rattle.groups.specs.Items.{isPlate}
 use Rattle.placed.specs.Rises.{climbing}
 use Rattle.placed.proofs.Climbing.{climbing-step, climbing-more, climbing-above, one-place, place-cases}
-use Rattle.frames.specs.Fitted.{placeIn, fitRefusal}
+use Rattle.frames.specs.declared.plates.Plates.{Plates}
+use Rattle.frames.specs.Fitted.{fitted, placeIn, fitRefusal}
+
+-- a frame has at most 32 levers
+pub few-plates : (f : Plates) → length (fitted f) ≤ 32
+few-plates f = let n = f .few in omega (arith, length-take-le (f .count) (f .plates) (omega (arith, f .long)))
 
 -- the first place of a plate
 pub place-first : (ps : List ℕ) (p i : ℕ) → i < length ps → getD ps i 0 ≡ p → ((k : ℕ) → k < i → getD ps k 0 ≡ p → ⊥) → placeIn ps p ≡ Some i
@@ -40,9 +44,9 @@ pub place-found : (ps : List ℕ) (p i : ℕ) → climbing 0 ps ≡ true → pla
 place-found ps p i r h =
     ⊎-elim
     (λ f.
-        let s : Some (f .0) ≡ Some i = sym (place-at ps (f .0) r (f .1)) ∙ ap (placeIn ps) (f .2) ∙ h in
-        let e : f .0 ≡ i = cc in
-        (omega (arith, f .1), ap (λ k. getD ps k 0) (sym e) ∙ f .2))
+    let s : Some (f .0) ≡ Some i = sym (place-at ps (f .0) r (f .1)) ∙ ap (placeIn ps) (f .2) ∙ h in
+    let e : f .0 ≡ i = cc in
+    (omega (arith, f .1), ap (λ k. getD ps k 0) (sym e) ∙ f .2))
     (λ n. absurd (let z : _≡_ {A = ℕ} 0 1 = cc (place-none ps p n) in omega arith))
     (place-cases ps p)
 
@@ -72,9 +76,9 @@ climbing-push low (q ∷ qs) p r l h last =
         ⊎-elim
         (λ e. last 0 (ap suc (sym e)))
         (λ ne.
-            let a = climbing-above q qs (length qs - 1) r (omega arith) in
-            let b = last (suc (length qs - 1)) (omega arith) in
-            omega arith)
+        let a = climbing-above q qs (length qs - 1) r (omega arith) in
+        let b = last (suc (length qs - 1)) (omega arith) in
+        omega arith)
         (cases-eq (length qs) 0)
 
 -- what climbs on lies above each plate before it
@@ -103,10 +107,10 @@ module _ (xs : List ℕ) (n p : ℕ) (within : n ≤ length xs) (rises : climbin
   pub climbs : (0 < n → getD xs (n - 1) 0 < p) → climbing 0 (take n xs ++ (p ∷ [])) ≡ true
   climbs above =
       climbing-push 0 (take n xs) p rises (omega arith) high (λ j e.
-        let l : suc j ≡ n = e ∙ length-take-le n xs within in
-        let q = last-plate j l in
-        let a = above (omega arith) in
-        omega arith)
+      let l : suc j ≡ n = e ∙ length-take-le n xs within in
+      let q = last-plate j l in
+      let a = above (omega arith) in
+      omega arith)
 
   pub refused-below : 0 < n → p ≤ getD xs (n - 1) 0 → fitRefusal (take n xs) p ≡ Some NotAbove
   refused-below l below =

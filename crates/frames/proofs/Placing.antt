@@ -3,7 +3,7 @@ use mathlib.Core.Path.{_≡_, refl, sym, ap, _∙_, subst}
 use mathlib.Core.Bool.{true, false, cond, _&&_}
 use mathlib.Core.List.{List, [], _∷_}
 use mathlib.Core.Logic.{⊎-elim}
-use Prim.Native.Nat.{ℕ, suc, _+_, _<_, _≤_}
+use Prim.Native.Nat.{ℕ, _+_, _<_, _≤_}
 use native.Mathlib.Numerals.{add-one}
 use native.Mathlib.Omega.{arith}
 use lib.Dec.{eqb, ltb}
@@ -62,17 +62,17 @@ module _ (ps : List ℕ) (items rest : List Item) (x : Item) (g h : Placed) (i :
       record {
         same = sym (cond-true _ _ _ (ap isSome found)) ∙ s .same;
         signs = λ j l.
-          ⊎-elim
-          (λ e.
-              let q : getD ps j 0 ≡ x .plate = ap (λ k. getD ps k 0) e ∙ stands .1 in
-              (λ z. first (unnamed-below (getD ps j 0) (x .plate) rest (omega arith) rises z) ((ap (signOn h) e ∙ given-here) z))
-              ∙ sym (ap (λ o. first o (signOn g j)) (cond-true (eqb (x .plate) (getD ps j 0)) (Some (x .sign)) (signAt rest (getD ps j 0)) (eq-eqb _ _ (sym q))))
-              ∙ s .signs j l)
-          (λ ne.
-              ap (first (signAt rest (getD ps j 0))) (given-other j ne)
-              ∙ sym (ap (λ o. first o (signOn g j)) (cond-false (eqb (x .plate) (getD ps j 0)) (Some (x .sign)) (signAt rest (getD ps j 0)) (ne-eqb _ _ (λ e. ne (one-place 0 ps j i climbs l (stands .0) (sym e ∙ sym (stands .1)))))))
-              ∙ s .signs j l)
-          (cases-eq j i);
+            ⊎-elim
+            (λ e.
+            let q : getD ps j 0 ≡ x .plate = ap (λ k. getD ps k 0) e ∙ stands .1 in
+            (λ z. first (unnamed-below (getD ps j 0) (x .plate) rest (omega arith) rises z) ((ap (signOn h) e ∙ given-here) z))
+            ∙ sym (ap (λ o. first o (signOn g j)) (cond-true (eqb (x .plate) (getD ps j 0)) (Some (x .sign)) (signAt rest (getD ps j 0)) (eq-eqb _ _ (sym q))))
+            ∙ s .signs j l)
+            (λ ne.
+            ap (first (signAt rest (getD ps j 0))) (given-other j ne)
+            ∙ sym (ap (λ o. first o (signOn g j)) (cond-false (eqb (x .plate) (getD ps j 0)) (Some (x .sign)) (signAt rest (getD ps j 0)) (ne-eqb _ _ (λ e. ne (one-place 0 ps j i climbs l (stands .0) (sym e ∙ sym (stands .1)))))))
+            ∙ s .signs j l)
+            (cases-eq j i);
         within = λ k l. given-other k (λ e. omega (arith, stands .0)) ∙ s .within k l;
       }
 
@@ -93,19 +93,18 @@ unplaced ps [] p m u = refl
 unplaced ps (x ∷ xs) p m u =
     ⊎-elim
     (λ t.
-        cond-false _ _ _ (ne-eqb (x .plate) p (λ e. let z : true ≡ false = sym t ∙ ap isSome (ap (placeIn ps) e ∙ u) in let w : _≡_ {A = ℕ} 0 1 = cc in omega arith))
-        ∙ unplaced ps xs p (sym (cond-true _ _ _ t) ∙ m) u)
+    cond-false _ _ _ (ne-eqb (x .plate) p (λ e. let z : true ≡ false = sym t ∙ ap isSome (ap (placeIn ps) e ∙ u) in let w : _≡_ {A = ℕ} 0 1 = cc in omega arith))
+    ∙ unplaced ps xs p (sym (cond-true _ _ _ t) ∙ m) u)
     (λ f. absurd (let z : Some (x .plate) ≡ None = sym (cond-false _ _ _ f) ∙ m in let w : _≡_ {A = ℕ} 0 1 = cc in omega arith))
     (cases-bool (isSome (placeIn ps (x .plate))))
 
 pub placing-all : (ps : List ℕ) (items : List Item) (g : Placed) → climbing 0 ps ≡ true → rising 0 items ≡ true → Placing ps items [] g → (missing ps items ≡ None) × (spell ps g ≡ items) × Within (length ps) g
-placing-all ps items g c r s =
-    (
-      sym (s .same),
-      same-signs 0 (spell ps g) items (spelled-rises ps g c) r (λ p.
-        ⊎-elim
-        (λ f. ap (signAt (spell ps g)) (sym (f .2)) ∙ spelled-sign ps g (f .0) c (f .1) ∙ s .signs (f .0) (f .1) ∙ ap (signAt items) (f .2))
-        (λ n. spelled-none ps g p n ∙ sym (unplaced ps items p (sym (s .same)) (place-none ps p n)))
-        (place-cases ps p)),
-      s .within,
-    )
+placing-all ps items g c r s = (
+  sym (s .same),
+  same-signs 0 (spell ps g) items (spelled-rises ps g c) r (λ p.
+      ⊎-elim
+      (λ f. ap (signAt (spell ps g)) (sym (f .2)) ∙ spelled-sign ps g (f .0) c (f .1) ∙ s .signs (f .0) (f .1) ∙ ap (signAt items) (f .2))
+      (λ n. spelled-none ps g p n ∙ sym (unplaced ps items p (sym (s .same)) (place-none ps p n)))
+      (place-cases ps p)),
+  s .within,
+)

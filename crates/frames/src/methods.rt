@@ -25,7 +25,10 @@ impl Plates {
     pub fn new() -> Plates
         ensures { λ r. ⌜ fitted r ≡ [] ⌝ }
     {
-        Plates { plates: [0; 32], count: 0 }
+        Plates {
+            plates: [0; 32],
+            count: 0,
+        }
     }
 
     // The plates in rising order.

@@ -2,7 +2,7 @@
 use mathlib.Core.Path.{_≡_, refl, sym, ap, _∙_}
 use mathlib.Core.Bool.{cond}
 use mathlib.Core.Logic.{⊎-elim}
-use Prim.Native.Nat.{ℕ, suc, _+_, _-_, _*_, _/_, _%_, _^_, _<_, _≤_, min, max}
+use Prim.Native.Nat.{ℕ, suc, _+_, _-_, _/_, _%_, _^_, _<_, _≤_, min, max}
 use native.Mathlib.Nat.{pow-suc, div-eq-of-lt, div-one, div-self}
 use native.Mathlib.Numerals.{one-add}
 use native.Mathlib.Omega.{arith}
@@ -35,11 +35,11 @@ one-digit j k =
     ⊎-elim
     (λ e. ap (λ n. 2 ^ j / 2 ^ n % 2) e ∙ ap (λ n. n % 2) (div-self (pow-pos j)) ∙ sym (cond-true (eqb k j) 1 0 (eq-eqb k j e)))
     (λ d.
-        ⊎-elim
-        (λ lt. ap (λ n. 2 ^ n / 2 ^ k % 2) (let e : j ≡ suc (j - suc k) + k = omega arith in e) ∙ low-digit (j - suc k) k)
-        (λ lt. ap (λ n. n % 2) (div-eq-of-lt (pow-below j k lt)))
-        d
-        ∙ sym (cond-false (eqb k j) 1 0 (ne-eqb k j (λ e. ⊎-elim (λ lt. omega arith) (λ lt. omega arith) d))))
+    ⊎-elim
+    (λ lt. ap (λ n. 2 ^ n / 2 ^ k % 2) (let e : j ≡ suc (j - suc k) + k = omega arith in e) ∙ low-digit (j - suc k) k)
+    (λ lt. ap (λ n. n % 2) (div-eq-of-lt (pow-below j k lt)))
+    d
+    ∙ sym (cond-false (eqb k j) 1 0 (ne-eqb k j (λ e. ⊎-elim (λ lt. omega arith) (λ lt. omega arith) d))))
     (cases-order k j)
 
 -- the digits of a half are those of the whole, one further on

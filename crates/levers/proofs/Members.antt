@@ -1,13 +1,13 @@
 -- What is in the sets that the code makes, and sets that have the same places. Assumes nothing.
-use mathlib.Core.Path.{_≡_, sym, ap, _∙_}
-use mathlib.Core.Bool.{Bool, true, false, not, cond, _&&_, _||_}
-use Prim.Native.Nat.{ℕ, _+_, _*_, _/_, _%_, _^_, _<_, _≤_, min, max}
+use mathlib.Core.Path.{_≡_, ap, _∙_}
+use mathlib.Core.Bool.{true, false, not, _&&_, _||_}
+use Prim.Native.Nat.{ℕ, _*_, _/_, _%_, _^_, _<_, _≤_}
 use native.Mathlib.Omega.{arith}
 use lib.Bits.{bitAnd, bitOr, bitXor}
 use lib.Dec.{eqb, ltb}
 use Rattle.std.specs.Orderings.{Decides}
 use Rattle.std.proofs.shelf.Bits.{one-shl, and-mask}
-use Rattle.std.proofs.shelf.Tests.{eq-eqb, eqb-true, lt-ltb}
+use Rattle.std.proofs.shelf.Tests.{eq-eqb, eqb-true}
 use Rattle.std.proofs.shelf.Ways.{tells}
 use Rattle.levers.specs.declared.Levers.{Levers}
 use Rattle.levers.specs.Sets.{has}
@@ -39,11 +39,10 @@ pub in-low : (a p : ℕ) → a < 2 ^ 32 → eqb (a / 2 ^ p % 2) 1 ≡ true → p
 in-low a p h e = grind (arith, tells, high-digit a 32 p h)
 
 pub is-within : (a b : ℕ) → Decides (eqb (bitAnd a b) a) ((k : ℕ) → eqb (a / 2 ^ k % 2) 1 ≡ true → eqb (b / 2 ^ k % 2) 1 ≡ true)
-is-within a b =
-    (
-      (λ e k h. eq-eqb (b / 2 ^ k % 2) 1 (omega (arith, and-digit a b k, ap (λ n. n / 2 ^ k % 2) (eqb-true (bitAnd a b) a e), eqb-true (a / 2 ^ k % 2) 1 h))),
-      (λ h. eq-eqb _ _ (same-digits (bitAnd a b) a (λ k. and-digit a b k ∙ grind (arith, tells, h k)))),
-    )
+is-within a b = (
+  (λ e k h. eq-eqb (b / 2 ^ k % 2) 1 (omega (arith, and-digit a b k, ap (λ n. n / 2 ^ k % 2) (eqb-true (bitAnd a b) a e), eqb-true (a / 2 ^ k % 2) 1 h))),
+  (λ h. eq-eqb _ _ (same-digits (bitAnd a b) a (λ k. and-digit a b k ∙ grind (arith, tells, h k)))),
+)
 
 pub same-sets : (s t : Levers) → ((k : ℕ) → has s k ≡ has t k) → s ≡ t
 same-sets s t h =

@@ -32,7 +32,9 @@ impl Levers {
         ensures { λ r. ⌜ ((k : ℕ) → has r k ≡ (has self k || (eqb k place && ltb place 32))) ⌝ }
     {
         if place < 32 {
-            Levers { bits: self.bits | 1 << place }
+            Levers {
+                bits: self.bits | 1 << place,
+            }
         } else {
             self
         }
@@ -43,7 +45,9 @@ impl Levers {
         ensures { λ r. ⌜ ((k : ℕ) → has r k ≡ (has self k && not (eqb k place))) ⌝ }
     {
         if self.has(place) {
-            Levers { bits: self.bits ^ 1 << place }
+            Levers {
+                bits: self.bits ^ 1 << place,
+            }
         } else {
             self
         }
@@ -53,7 +57,9 @@ impl Levers {
     pub fn union(self, other: Levers) -> Levers
         ensures { λ r. ⌜ ((k : ℕ) → has r k ≡ (has self k || has other k)) ⌝ }
     {
-        Levers { bits: self.bits | other.bits }
+        Levers {
+            bits: self.bits | other.bits,
+        }
     }
 
     // Whether each place of this set is in the other.

@@ -1,7 +1,7 @@
 -- Plates that climb. Assumes nothing.
-use mathlib.Core.Path.{_≡_, refl, ap, _∙_}
-use mathlib.Core.Bool.{true, _&&_}
-use mathlib.Core.List.{List, [], _∷_, _++_}
+use mathlib.Core.Path.{_≡_, refl, ap}
+use mathlib.Core.Bool.{true}
+use mathlib.Core.List.{List, [], _∷_}
 use mathlib.Core.Logic.{_⊎_, inl, inr, ⊎-elim}
 use Prim.Native.Nat.{ℕ, zero, suc, _<_, _≤_}
 use native.Mathlib.Omega.{arith}
@@ -48,10 +48,10 @@ place-cases (q ∷ qs) p =
     ⊎-elim
     (λ e. inl (0, omega arith, e))
     (λ ne.
-        ⊎-elim
-        (λ f. inl (suc (f .0), omega (arith, f .1), f .2))
-        (λ none. inr (λ j h e. elsewhere ne none j h e))
-        (place-cases qs p))
+    ⊎-elim
+    (λ f. inl (suc (f .0), omega (arith, f .1), f .2))
+    (λ none. inr (λ j h e. elsewhere ne none j h e))
+    (place-cases qs p))
     (cases-eq q p)
   where
     elsewhere : (q ≡ p → ⊥) → ((j : ℕ) → j < length qs → getD qs j 0 ≡ p → ⊥) → (j : ℕ) → j < length (q ∷ qs) → getD (q ∷ qs) j 0 ≡ p → ⊥

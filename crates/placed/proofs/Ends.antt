@@ -39,10 +39,6 @@ joint-ends u d v e t = grind arith
 pub same-ends : (u d v e : Bool) → signOf u d ≡ signOf v e → (u ≡ v) × (d ≡ e)
 same-ends u d v e s = (grind arith, grind arith)
 
--- no sign, no ends
-pub no-ends : (u d : Bool) → signOf u d ≡ None → (u ≡ false) × (d ≡ false)
-no-ends u d s = (grind arith, grind arith)
-
 -- the ends with those of one lever, of which t tells, set anew; l tells that there is such a lever
 module _ (u d t l : Bool) (high : t ≡ true → l ≡ false → (u ≡ false) × (d ≡ false)) where
   ends-plus : signOf ((u && not t) || (t && l)) (d && not t) ≡ cond (t && l) (Some Plus) (signOf u d)

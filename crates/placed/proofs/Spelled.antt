@@ -1,6 +1,6 @@
 -- What the items that a group spells say of each plate. Assumes nothing.
 use mathlib.Core.Path.{_≡_, refl, sym, ap, _∙_}
-use mathlib.Core.Bool.{Bool, true, false, cond, _&&_}
+use mathlib.Core.Bool.{true, cond, _&&_}
 use mathlib.Core.List.{List, [], _∷_, _++_}
 use mathlib.Core.Logic.{⊎-elim}
 use Prim.Native.Nat.{ℕ, zero, suc, _+_, _<_, _≤_}
@@ -101,32 +101,30 @@ covers-from k [] g h s = refl
 covers-from k (p ∷ ps) g h s =
     item-covers (signOn g k) p (spellFrom (suc k) ps g) h
     ∙ and-from _ _
-      (ap (λ n. sitsIf (signOn g n) (signAt h p)) (let e : k ≡ k + 0 = omega arith in e) ∙ s 0 (omega arith))
-      (covers-from (suc k) ps g h (λ j l. ap (λ n. sitsIf (signOn g n) (signAt h (getD ps j 0))) (let e : suc k + j ≡ k + suc j = omega arith in e) ∙ s (suc j) (omega arith)))
+    (ap (λ n. sitsIf (signOn g n) (signAt h p)) (let e : k ≡ k + 0 = omega arith in e) ∙ s 0 (omega arith))
+    (covers-from (suc k) ps g h (λ j l. ap (λ n. sitsIf (signOn g n) (signAt h (getD ps j 0))) (let e : suc k + j ≡ k + suc j = omega arith in e) ∙ s (suc j) (omega arith)))
 
 pub spelled-covers : (ps : List ℕ) (g : Placed) (h : List Item) → Decides (covers (spell ps g) h) ((j : ℕ) → j < length ps → sitsIf (signOn g j) (signAt h (getD ps j 0)) ≡ true)
-spelled-covers ps g h =
-    (
-      (λ c j l. ap (λ n. sitsIf (signOn g n) (signAt h (getD ps j 0))) (let e : j ≡ 0 + j = omega arith in e) ∙ sits-from 0 ps g h c j l),
-      (λ s. covers-from 0 ps g h (λ j l. ap (λ n. sitsIf (signOn g n) (signAt h (getD ps j 0))) (let e : 0 + j ≡ j = omega arith in e) ∙ s j l)),
-    )
+spelled-covers ps g h = (
+  (λ c j l. ap (λ n. sitsIf (signOn g n) (signAt h (getD ps j 0))) (let e : j ≡ 0 + j = omega arith in e) ∙ sits-from 0 ps g h c j l),
+  (λ s. covers-from 0 ps g h (λ j l. ap (λ n. sitsIf (signOn g n) (signAt h (getD ps j 0))) (let e : 0 + j ≡ j = omega arith in e) ∙ s j l)),
+)
 
 -- groups within the plates that spell the same are the same
 pub same-spelled : (ps : List ℕ) (g h : Placed) → climbing 0 ps ≡ true → Within (length ps) g → Within (length ps) h → spell ps g ≡ spell ps h → g ≡ h
 same-spelled ps g h r v w e =
     same-groups g h (λ k.
-      ⊎-elim
-      (λ l. sym (spelled-sign ps g k r l) ∙ ap (λ xs. signAt xs (getD ps k 0)) e ∙ spelled-sign ps h k r l)
-      (λ l. v k l ∙ sym (w k l))
-      (cases-lt k (length ps)))
+    ⊎-elim
+    (λ l. sym (spelled-sign ps g k r l) ∙ ap (λ xs. signAt xs (getD ps k 0)) e ∙ spelled-sign ps h k r l)
+    (λ l. v k l ∙ sym (w k l))
+    (cases-lt k (length ps)))
 
 -- one group covers another where its ends are among the other's
 pub covers-ends : (ps : List ℕ) (g h : Placed) → climbing 0 ps ≡ true → Within (length ps) g → Decides (covers (spell ps g) (spell ps h)) (((k : ℕ) → has (g .up) k ≡ true → has (h .up) k ≡ true) × ((k : ℕ) → has (g .down) k ≡ true → has (h .down) k ≡ true))
-covers-ends ps g h r w =
-    (
-      (λ c. ((λ k. sits-up _ _ _ _ (sits c k)), (λ k. sits-down _ _ _ _ (sits c k)))),
-      (λ e. spelled-covers ps g (spell ps h) .1 (λ j l. ap (sitsIf (signOn g j)) (spelled-sign ps h j r l) ∙ ends-sit _ _ _ _ (e .0 j) (e .1 j))),
-    )
+covers-ends ps g h r w = (
+  (λ c. ((λ k. sits-up _ _ _ _ (sits c k)), (λ k. sits-down _ _ _ _ (sits c k)))),
+  (λ e. spelled-covers ps g (spell ps h) .1 (λ j l. ap (sitsIf (signOn g j)) (spelled-sign ps h j r l) ∙ ends-sit _ _ _ _ (e .0 j) (e .1 j))),
+)
   where
     sits : covers (spell ps g) (spell ps h) ≡ true → (k : ℕ) → sitsIf (signOn g k) (signOn h k) ≡ true
     sits c k =
@@ -144,14 +142,14 @@ combined ps a b c i r l p m s =
       spelled = spelled-rises ps c r;
       dropped = spelled-sign ps c i r l ∙ s i ∙ cond-true _ _ _ (eq-eqb i i refl);
       others = λ q ne.
-        ⊎-elim
-        (λ f.
-            ap (signAt (spell ps c)) (sym (f .2))
-            ∙ spelled-sign ps c (f .0) r (f .1)
-            ∙ s (f .0)
-            ∙ cond-false _ _ _ (ne-eqb (f .0) i (λ e. ne (sym (f .2) ∙ ap (λ n. getD ps n 0) e)))
-            ∙ (λ z. joint (sym (spelled-sign ps a (f .0) r (f .1)) z) (sym (spelled-sign ps b (f .0) r (f .1)) z))
-            ∙ ap (λ n. joint (signAt (spell ps a) n) (signAt (spell ps b) n)) (f .2))
-        (λ n. spelled-none ps c q n ∙ (λ z. joint (sym (spelled-none ps a q n) z) (sym (spelled-none ps b q n) z)))
-        (place-cases ps q);
+          ⊎-elim
+          (λ f.
+          ap (signAt (spell ps c)) (sym (f .2))
+          ∙ spelled-sign ps c (f .0) r (f .1)
+          ∙ s (f .0)
+          ∙ cond-false _ _ _ (ne-eqb (f .0) i (λ e. ne (sym (f .2) ∙ ap (λ n. getD ps n 0) e)))
+          ∙ (λ z. joint (sym (spelled-sign ps a (f .0) r (f .1)) z) (sym (spelled-sign ps b (f .0) r (f .1)) z))
+          ∙ ap (λ n. joint (signAt (spell ps a) n) (signAt (spell ps b) n)) (f .2))
+          (λ n. spelled-none ps c q n ∙ (λ z. joint (sym (spelled-none ps a q n) z) (sym (spelled-none ps b q n) z)))
+          (place-cases ps q);
     }

@@ -15,8 +15,8 @@ ghost use Rattle.groups.specs.declared.items.Sign.the-variants.{Plus, Minus};
 ghost use Rattle.placed.specs.Rises.{climbing};
 ghost use Rattle.placed.specs.Signs.{signOn, Within};
 ghost use Rattle.placed.specs.Spelling.{spell};
-use levers::Levers;
 use groups::items::Sign;
+use levers::Levers;
 use levers::LeversPartialEq;
 
 // A group by the ends of its levers: + has the upper end, - the lower, * both.
@@ -31,7 +31,10 @@ impl Placed {
     pub fn empty() -> Placed
         ensures { λ r. ⌜ ((k : ℕ) → signOn r k ≡ None) ⌝ }
     {
-        Placed { up: Levers::none(), down: Levers::none() }
+        Placed {
+            up: Levers::none(),
+            down: Levers::none(),
+        }
     }
 
     // The sign of the lever at a place, if the group names it.
@@ -53,9 +56,18 @@ impl Placed {
         let up = self.up.without(place);
         let down = self.down.without(place);
         match sign {
-            Sign::Plus => Placed { up: up.with(place), down },
-            Sign::Minus => Placed { up, down: down.with(place) },
-            Sign::Star => Placed { up: up.with(place), down: down.with(place) },
+            Sign::Plus => Placed {
+                up: up.with(place),
+                down,
+            },
+            Sign::Minus => Placed {
+                up,
+                down: down.with(place),
+            },
+            Sign::Star => Placed {
+                up: up.with(place),
+                down: down.with(place),
+            },
         }
     }
 

@@ -1,4 +1,4 @@
-use Prim.Native.Nat.{_/_, _^_, _<_}
+use Prim.Native.Nat.{_/_, _^_}
 use native.Mathlib.Omega.{arith}
 use Rattle.levers.proofs.Members.{in-has, in-no}
 use Rattle.levers.proofs.Levers.has.Needs as need

@@ -1,8 +1,7 @@
-use mathlib.Core.Path.{_≡_, sym, ap, _∙_, subst}
+use mathlib.Core.Path.{_≡_, sym, subst}
 use Prim.Native.Nat.{ℕ}
 use native.Mathlib.Omega.{arith}
 use Rattle.std.specs.Options.{mapped}
-use Rattle.std.specs.declared.option.Option.the-variants.{Some, None}
 use Rattle.groups.specs.Items.{CombinesTo}
 use Rattle.placed.specs.Spelling.{spell}
 use Rattle.placed.proofs.Spelled.{spelled-none}
@@ -14,9 +13,9 @@ pub returns-in-Break-place : need.returns-in-Break-place
 returns-in-Break-place c =
     rw (c .from-residual .ensures)
     (λ plus minus.
-        let none = spelled-none (fitted (c .args .self .now)) (c .args .a) (c .args .plate) (place-missing (fitted (c .args .self .now)) (c .args .plate) (c .args .self .now .rises) (sym (c .in-Break-place .ensures tt))) in
-        let z : _≡_ {A = ℕ} 0 1 = cc in
-        omega arith)
+    let none = spelled-none (fitted (c .args .self .now)) (c .args .a) (c .args .plate) (place-missing (fitted (c .args .self .now)) (c .args .plate) (c .args .self .now .rises) (sym (c .in-Break-place .ensures tt))) in
+    let z : _≡_ {A = ℕ} 0 1 = cc in
+    omega arith)
 
 pub returns : need.returns
 returns c =

@@ -1,4 +1,4 @@
-use mathlib.Core.Path.{_≡_, refl, sym, ap, _∙_}
+use mathlib.Core.Path.{refl, sym, ap, _∙_}
 use Prim.Native.Nat.{_-_, _<_}
 use native.Mathlib.Omega.{arith}
 use lib.ListN.{getD}
@@ -13,9 +13,9 @@ use Rattle.frames.proofs.plates.Plates.fit.Needs.{Joined-else-count-gt0, else-
 -- the last plate, if there is one, lies below the new one
 above : (c : Joined-else-count-gt0) → 0 < c .args .self .now .count → getD (c .args .self .now .plates) (c .args .self .now .count - 1) 0 < c .args .plate
 above c l = elim (c .else-count-gt0 .came) [
-    else-count-gt0·by·then-count-gt0·else-self-count w ↦ w .if-self-count .left
+  | else-count-gt0·by·then-count-gt0·else-self-count w ↦ w .if-self-count .left
   | else-count-gt0·by·else-count-gt0 w ↦ absurd (omega (arith, l, w .if-count-gt0 .left))
-  ]
+]
 
 pub returns-then-self-count : need.returns-then-self-count
 returns-then-self-count c =
@@ -37,14 +37,13 @@ pub ghost-self : need.ghost-self
 ghost-self c =
     let f = c .args .self .now in
     let room = c .if-count-ge-MOST-LEVERS .left in
-    let long = f .long in
-    (
+    let long = f .long in (
       length-set (f .plates) (f .count) (c .args .plate) ∙ long,
       (
         omega arith,
         (
           ap (climbing 0) (take-more-set (f .plates) (f .count) (c .args .plate) (omega arith))
-          ∙ climbs (f .plates) (f .count) (c .args .plate) (omega arith) (f .rises) (c .if-plate-eq0 .left) (c .if-plate-gt-HIGHEST-PLATE .left) (above (need.at·ghost-self c .Joined-else-count-gt0)),
+              ∙ climbs (f .plates) (f .count) (c .args .plate) (omega arith) (f .rises) (c .if-plate-eq0 .left) (c .if-plate-gt-HIGHEST-PLATE .left) (above (need.at·ghost-self c .Joined-else-count-gt0)),
           tt,
         ),
       ),

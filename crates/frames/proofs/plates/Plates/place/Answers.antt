@@ -1,25 +1,17 @@
-use mathlib.Core.Path.{_≡_, sym, ap, _∙_, subst}
+use mathlib.Core.Path.{sym, ap, _∙_, subst}
 use mathlib.Core.List.{[]}
-use Prim.Native.Nat.{_≤_}
-use native.Mathlib.Omega.{arith}
-use lib.ListN.{length}
 use Rattle.std.specs.Options.{mapped}
 use Rattle.std.specs.declared.option.Option.the-variants.{Some}
-use Rattle.std.proofs.shelf.Lists.{drop-all, length-take-le}
+use Rattle.std.proofs.shelf.Lists.{drop-all}
 use Rattle.faults.specs.declared.Place.the-variants.{Plate}
 use Rattle.faults.specs.declared.Refusal.the-variants.{NotFitted}
 use Rattle.faults.specs.Faults.{faultOf}
 use Rattle.groups.specs.Groups.{itemsOf}
 use Rattle.groups.specs.Items.{rising}
-use Rattle.placed.specs.Signs.{Within}
-use Rattle.placed.specs.Spelling.{spell}
-use Rattle.frames.specs.Fitted.{fitted, missing, PlacesTo}
-use Rattle.frames.specs.declared.plates.Plates.{Plates}
+use Rattle.frames.specs.Fitted.{fitted, missing}
+use Rattle.frames.proofs.Fitting.{few-plates}
 use Rattle.frames.proofs.Placing.{Placing, placing-none, placing-more, placing-all, missing-here}
 use Rattle.frames.proofs.plates.Plates.place.Needs as need
-
-few : (f : Plates) → length (fitted f) ≤ 32
-few f = let n = f .few in omega (arith, length-take-le (f .count) (f .plates) (omega (arith, f .long, f .few)))
 
 pub loop-item-holds : need.loop-item-holds
 loop-item-holds c = placing-none (fitted (c .args .self .now)) (c .items-item-items .result .now) (c .empty-placed .result) (c .empty-placed .ensures)
@@ -33,12 +25,12 @@ returns-in-None c =
 pub loop-item-again : need.loop-item-again
 loop-item-again c =
     placing-more (fitted (c .args .self .now)) (c .items-item-items .result .now) (c .loop-item .item-index) (c .loop-item .placed) (c .with-placed .result) (c .in-Some .place)
-    (c .args .self .now .rises) (few (c .args .self .now)) (ap (rising 0) (c .items-item-items .ensures) ∙ c .args .group .now .rises)
+    (c .args .self .now .rises) (few-plates (c .args .self .now)) (ap (rising 0) (c .items-item-items .ensures) ∙ c .args .group .now .rises)
     (c .loop-item-test .taken) (sym (c .in-Some .ensures tt)) (c .with-placed .ensures) (c .loop-item .inv)
 
 pub returns : need.returns
 returns c =
     placing-all (fitted (c .args .self .now)) (itemsOf (c .args .group .now)) (c .loop-item .placed) (c .args .self .now .rises) (c .args .group .now .rises)
     (subst (λ is. Placing (fitted (c .args .self .now)) is [] (c .loop-item .placed)) (c .items-item-items .ensures)
-      (subst (λ rest. Placing (fitted (c .args .self .now)) (c .items-item-items .result .now) rest (c .loop-item .placed))
-        (drop-all (c .loop-item .item-index) (c .items-item-items .result .now) (c .loop-item-test .left)) (c .loop-item .inv)))
+    (subst (λ rest. Placing (fitted (c .args .self .now)) (c .items-item-items .result .now) rest (c .loop-item .placed))
+    (drop-all (c .loop-item .item-index) (c .items-item-items .result .now) (c .loop-item-test .left)) (c .loop-item .inv)))

@@ -79,7 +79,10 @@ impl Plates {
         for item in group.items() {
             match self.find(item.plate) {
                 Some(place) => placed = placed.with(place, item.sign),
-                None => return Err(Refusal::NotFitted.at(Place::Plate(item.plate))),
+                None => {
+                    let fault = Refusal::NotFitted.at(Place::Plate(item.plate));
+                    return Err(fault);
+                }
             }
         }
         Ok(placed)

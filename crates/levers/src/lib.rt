@@ -57,9 +57,8 @@ impl Levers {
     pub fn union(self, other: Levers) -> Levers
         ensures { λ r. ⌜ ((k : ℕ) → has r k ≡ (has self k || has other k)) ⌝ }
     {
-        Levers {
-            bits: self.bits | other.bits,
-        }
+        let bits = self.bits | other.bits;
+        Levers { bits }
     }
 
     // Whether each place of this set is in the other.

@@ -20,7 +20,7 @@ pub returns-in-None : need.returns-in-None
 returns-in-None c =
     ap (λ is. mapped (λ p. faultOf NotFitted (Plate p)) (missing (fitted (c .args .self .now)) is)) (sym (c .items-item-items .ensures))
     ∙ ap (mapped (λ p. faultOf NotFitted (Plate p))) (missing-here (fitted (c .args .self .now)) (c .items-item-items .result .now) (c .loop-item .item-index) (c .loop-item .placed) (c .loop-item-test .taken) (sym (c .in-None .ensures tt)) (c .loop-item .inv))
-    ∙ ap Some (sym (c .at .ensures))
+    ∙ ap Some (sym (c .at-fault .ensures))
 
 pub loop-item-again : need.loop-item-again
 loop-item-again c =

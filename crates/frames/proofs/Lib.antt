@@ -1,0 +1,4 @@
+pub mod Fitting
+pub mod Items
+pub mod Placing
+pub mod Written

@@ -1,0 +1,4 @@
+// The plates of a frame: where a plate stands, and groups between their two shapes, spelled and by places.
+// specs/Fitted.antt says what is looked for among the plates.
+pub mod methods;
+pub mod plates;

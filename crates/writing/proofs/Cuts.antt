@@ -5,7 +5,8 @@ use Prim.Native.Nat.{ℕ, zero, suc, _+_, _<_, _≤_}
 use native.Mathlib.Omega.{arith}
 use lib.ListN.{length, take, set}
 use Rattle.std.proofs.shelf.Lists.{take-all, take-at, take-more-set, length-take-le, length-push}
-use Rattle.writing.specs.Lines.{cut}
+use Rattle.writing.specs.declared.line.Line.{Line}
+use Rattle.writing.specs.Lines.{textOf, cut}
 
 pub cut-short : (text : List ℕ) → length text ≤ 320 → cut text ≡ text
 unfolding cut
@@ -31,5 +32,9 @@ pub put-full : (bytes : List ℕ) (n b : ℕ) → length bytes ≡ 320 → n ≤
 unfolding cut
 put-full bytes n b long h k = sym (take-at (take n bytes) (b ∷ []) 320 (length-take-le n bytes (omega arith) ∙ omega arith))
 
-pub nothing : (bytes : List ℕ) (n : ℕ) → length bytes ≡ 320 → n ≤ 320 → take n bytes ≡ cut (take n bytes ++ [])
+nothing : (bytes : List ℕ) (n : ℕ) → length bytes ≡ 320 → n ≤ 320 → take n bytes ≡ cut (take n bytes ++ [])
 nothing bytes n long h = sym (ap cut (append-nil (take n bytes)) ∙ cut-short (take n bytes) (omega (arith, length-take-le n bytes (omega arith))))
+
+-- nothing put behind the text of a line leaves it
+pub unchanged : (l : Line) → textOf l ≡ cut (textOf l ++ [])
+unchanged l = nothing (l .bytes) (l .len) (l .long) (l .few)

@@ -28,10 +28,13 @@ next-short low (i ∷ is) r =
     let rest = next-short (i .plate) is (s .rest) in
     omega (arith, length-append (nextText i) (joined nextText is))
 
-pub group-short : (is : List Item) → rising 0 is ≡ true → length is ≤ 32 → length (groupText is) ≤ 320
-group-short [] r few = omega arith
-group-short (i ∷ is) r few =
+pub group-bytes : (is : List Item) → rising 0 is ≡ true → length is ≤ 32 → length (groupText is) ≤ 289
+group-bytes [] r few = omega arith
+group-bytes (i ∷ is) r few =
     let s = rising-step 0 i is r in
     let one = item-short i (s .upto) in
     let rest = next-short (i .plate) is (s .rest) in
     omega (arith, length-append (rowText (i ∷ is)) (41 ∷ []), length-append (itemText i) (joined nextText is))
+
+pub group-short : (is : List Item) → rising 0 is ≡ true → length is ≤ 32 → length (groupText is) ≤ 320
+group-short is r few = let h = group-bytes is r few in omega arith

@@ -1,6 +1,7 @@
 // What is put into a line, and a line into the caller's buffer.
 ghost use mathlib.Core.Path.{_≡_};
 ghost use mathlib.Core.List.{List, [], _∷_, _++_};
+ghost use Prim.Native.Nat.{_≤_};
 ghost use lib.ListN.{length};
 ghost use Rattle.std.specs.Joined.{joined};
 ghost use Rattle.std.specs.Options.{mapped};
@@ -40,6 +41,13 @@ impl Line {
         Line { bytes: [0; 320], len: 0 }
     }
 
+    // How many bytes of text there are.
+    pub fn len(&self) -> usize
+        ensures { λ r. ⌜ r ≡ length (textOf (now (self .entry))) ⌝ }
+    {
+        self.len
+    }
+
     // Puts a byte behind the text, unless the line is full.
     pub fn put(&mut self, byte: u8)
         ensures { λ _. ⌜ textOf (now (self .exit)) ≡ cut (textOf (now (self .entry)) ++ (byte ∷ [])) ⌝ }
@@ -60,9 +68,10 @@ impl Line {
         }
     }
 
-    // Puts a number behind the text, as far as the line holds it.
+    // Puts a number behind the text, as far as the line holds it. It has at most 20 digits.
     pub fn put_number(&mut self, number: u64)
-        ensures { λ _. ⌜ textOf (now (self .exit)) ≡ cut (textOf (now (self .entry)) ++ decimal number) ⌝ }
+        ensures after { λ _. ⌜ textOf (now (self .exit)) ≡ cut (textOf (now (self .entry)) ++ decimal number) ⌝ }
+        ensures short { λ _. ⌜ length (decimal number) ≤ 20 ⌝ }
     {
         if number < 10 {
             self.put(b'0' + number as u8);

@@ -8,6 +8,6 @@ use Rattle.writing.proofs.texts.number_line.Needs as need
 
 pub returns : need.returns
 returns c =
-    c .put-number .ensures
+    c .put-number .ensures .after
     ∙ (λ i. cut (c .new-line .ensures i ++ decimal (c .from .ensures i)))
     ∙ cut-short (decimal (c .args .number)) (number-short (c .args .number) (c .fits .number .fits))

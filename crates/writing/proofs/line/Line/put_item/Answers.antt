@@ -8,5 +8,5 @@ use Rattle.writing.proofs.line.Line.put_item.Needs as need
 
 pub returns : need.returns
 returns c =
-    behind (textOf (c .args .self .now)) (decimal (c .args .item .plate)) (markOf (c .args .item .sign) ∷ []) (textOf (c .put-number .last .self)) (textOf (c .put .last .self)) (c .put-number .ensures ∙ ap (λ n. cut (textOf (c .args .self .now) ++ decimal n)) (c .from .ensures))
+    behind (textOf (c .args .self .now)) (decimal (c .args .item .plate)) (markOf (c .args .item .sign) ∷ []) (textOf (c .put-number .last .self)) (textOf (c .put .last .self)) (c .put-number .ensures .after ∙ ap (λ n. cut (textOf (c .args .self .now) ++ decimal n)) (c .from .ensures))
     (c .put .ensures ∙ ap (λ b. cut (textOf (c .put-number .last .self) ++ (b ∷ []))) (c .mark .ensures))

@@ -6,11 +6,11 @@ use Rattle.std.proofs.shelf.Lists.{take-more, take-all, joined-more}
 use Rattle.groups.proofs.Rising.{blank}
 use Rattle.writing.specs.Lines.{textOf, cut}
 use Rattle.writing.specs.Texts.{itemText, nextText}
-use Rattle.writing.proofs.Cuts.{behind, nothing}
+use Rattle.writing.proofs.Cuts.{behind, unchanged}
 use Rattle.writing.proofs.line.Line.put_next.Needs as need
 
 pub loop-item-holds : need.loop-item-holds
-loop-item-holds c = nothing (c .args .self .now .bytes) (c .args .self .now .len) (c .args .self .now .long) (c .args .self .now .few)
+loop-item-holds c = unchanged (c .args .self .now)
 
 pub loop-item-again : need.loop-item-again
 loop-item-again c =

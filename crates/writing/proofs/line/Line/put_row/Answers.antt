@@ -10,7 +10,7 @@ use Rattle.std.proofs.shelf.Tests.{eqb-true, eqb-false}
 use Rattle.groups.proofs.Rising.{blank}
 use Rattle.writing.specs.Lines.{textOf, cut}
 use Rattle.writing.specs.Texts.{itemText, nextText, rowText}
-use Rattle.writing.proofs.Cuts.{behind, nothing}
+use Rattle.writing.proofs.Cuts.{behind, unchanged}
 use Rattle.writing.proofs.line.Line.put_row.Needs as need
 
 pub returns-then-not-is-empty : need.returns-then-not-is-empty
@@ -21,5 +21,5 @@ returns-then-not-is-empty c =
 
 pub returns-else-not-is-empty : need.returns-else-not-is-empty
 returns-else-not-is-empty c =
-    nothing (c .args .self .now .bytes) (c .args .self .now .len) (c .args .self .now .long) (c .args .self .now .few)
+    unchanged (c .args .self .now)
     ∙ ap (λ l. cut (textOf (c .args .self .now) ++ rowText l)) (sym (nil-from-length (c .args .items .now) (eqb-true _ _ (sym (c .if-not-is-empty .ensures tt)))))

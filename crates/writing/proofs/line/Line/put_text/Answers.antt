@@ -3,11 +3,11 @@ use mathlib.Core.List.{[], _∷_, _++_}
 use lib.ListN.{take, getD}
 use Rattle.std.proofs.shelf.Lists.{take-more, take-all}
 use Rattle.writing.specs.Lines.{textOf, cut}
-use Rattle.writing.proofs.Cuts.{behind, nothing}
+use Rattle.writing.proofs.Cuts.{behind, unchanged}
 use Rattle.writing.proofs.line.Line.put_text.Needs as need
 
 pub loop-byte-holds : need.loop-byte-holds
-loop-byte-holds c = nothing (c .args .self .now .bytes) (c .args .self .now .len) (c .args .self .now .long) (c .args .self .now .few)
+loop-byte-holds c = unchanged (c .args .self .now)
 
 pub loop-byte-again : need.loop-byte-again
 loop-byte-again c =

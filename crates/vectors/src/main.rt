@@ -1,6 +1,8 @@
 // Reads worked examples, and a short text with every byte in every position, and compares each answer with what it should be.
 use entries::answer_group;
 use entries::tell;
+use faults::Place;
+use reading::reader::read_group;
 use reading::reader::read_plate;
 use std::alloc::Global;
 use std::io;
@@ -57,4 +59,119 @@ fn main(rt: LibcRuntime) -> io::Result<()> {
     println!(rt, "bytes: {bytes} as expected")?;
     let long = long_number(heap)?;
     println!(rt, "a number of 4000 digits: {long}")
+}
+
+// How many of the groups are answered as they should be; prints the others.
+fn count_groups(rt: &LibcRuntime) -> io::Result<u32> {
+    let mut count: u32 = 0;
+    for (text, expected) in GROUPS {
+        if is_answer(text.as_bytes(), expected.as_bytes()) {
+            count = count.saturating_add(1);
+        } else {
+            println!(rt, "group {text:?} is not answered by {expected:?}")?;
+        }
+    }
+    Ok(count)
+}
+
+// How many of the numbers are answered as they should be; prints the others.
+fn count_numbers(rt: &LibcRuntime) -> io::Result<u32> {
+    let mut count: u32 = 0;
+    for (text, expected) in NUMBERS {
+        let answer = match read_plate(text.as_bytes(), 4) {
+            Ok(plate) => format!(rt.alloc(), "{plate}")?,
+            Err(fault) => {
+                let number = fault.fault.number;
+                let place = fault.fault.place;
+                match place {
+                    Place::Byte(byte) => format!(rt.alloc(), "no {number} at {byte}")?,
+                    Place::Nowhere | Place::Plate(_) => format!(rt.alloc(), "no {number}")?,
+                }
+            }
+        };
+        if answer.as_str() == expected {
+            count = count.saturating_add(1);
+        } else {
+            println!(rt, "number {text:?} is answered by {answer:?}")?;
+        }
+    }
+    Ok(count)
+}
+
+// How many of the texts with one byte replaced are answered as they should be; prints the others.
+fn count_bytes(rt: &LibcRuntime) -> io::Result<u32> {
+    let mut count: u32 = 0;
+    for position in 0..SHORT.len() {
+        for byte in 0..=255u8 {
+            let mut text = SHORT;
+            text[position] = byte;
+            if is_right(&text, fault_of(position, byte)) {
+                count = count.saturating_add(1);
+            } else {
+                println!(rt, "byte {byte} in position {position} is not answered as expected")?;
+            }
+        }
+    }
+    Ok(count)
+}
+
+// Whether a line is answered by these bytes.
+fn is_answer(text: &[u8], expected: &[u8]) -> bool {
+    let mut buffer = [0; 320];
+    let length = match answer_group(text, 1, &mut buffer) {
+        Ok(reading) => Some(reading.length),
+        Err(fault) => tell(1, fault.record(), &mut buffer).ok().flatten(),
+    };
+    match length {
+        Some(n) => buffer.get(0..n) == Some(expected),
+        None => false,
+    }
+}
+
+// Whether a text is refused with this number at this byte, or read where no fault is expected.
+fn is_right(text: &[u8], expected: Option<(u8, usize)>) -> bool {
+    match read_group(text, 0) {
+        Ok(_) => expected.is_none(),
+        Err(fault) => match (expected, fault.fault.place) {
+            (Some((number, at)), Place::Byte(byte)) => number == fault.fault.number && at == byte,
+            _ => false,
+        },
+    }
+}
+
+// The fault of the short text with a byte in a position, written down from the rules, case by case.
+fn fault_of(position: usize, byte: u8) -> Option<(u8, usize)> {
+    let digit = byte.is_ascii_digit();
+    let sign = byte == b'+' || byte == b'-' || byte == b'*';
+    match position {
+        0 if byte == b'(' => None,
+        1 if byte == b'6' => Some((4, 4)),
+        1 if digit && byte != b'0' => None,
+        1 => Some((2, 1)),
+        2 if sign => None,
+        2 if digit => Some((3, 3)),
+        3 if byte == b' ' => None,
+        3 if byte == b')' => Some((3, 4)),
+        4 if byte == b'5' => Some((4, 4)),
+        4 if digit && byte != b'0' => None,
+        4 => Some((2, 4)),
+        5 if sign => None,
+        5 if digit => Some((3, 6)),
+        6 if byte == b')' => None,
+        6 if byte == b' ' => Some((2, 7)),
+        _ => Some((3, position)),
+    }
+}
+
+// How a group with a number of 4000 digits is answered.
+fn long_number(heap: Global) -> io::Result<&'static str> {
+    let mut text = vec![in heap; b'9'; 4003]?;
+    text[0] = b'(';
+    text[4001] = b'+';
+    text[4002] = b')';
+    if is_right(text.as_slice(), Some((2, 1))) {
+        Ok("refused at its first digit")
+    } else {
+        Ok("answered otherwise")
+    }
 }

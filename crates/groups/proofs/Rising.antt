@@ -12,7 +12,7 @@ use Rattle.std.specs.Options.{isSome}
 use Rattle.std.specs.declared.option.Option.{Option}
 use Rattle.std.specs.declared.option.Option.the-variants.{Some, None}
 use Rattle.std.specs.shelf.Lists.{leading}
-use Rattle.std.proofs.shelf.Tests.{and-parts, and-from, lt-ltb, le-ltb, le-leb, eq-eqb, ne-eqb, cond-true, cond-false, ltb-true, leb-true, eqb-true, cases-order, cases-lt, cases-eq, true≢false}
+use Rattle.std.proofs.shelf.Tests.{and-parts, and-from, lt-ltb, le-ltb, le-leb, eq-eqb, ne-eqb, cond-true, cond-false, ltb-true, leb-true, eqb-true, cases-order, cases-lt, cases-eq, not-true, true≢false}
 use Rattle.std.proofs.shelf.Sums.{leading-le-length}
 use Rattle.groups.specs.declared.items.Item.{Item}
 use Rattle.groups.specs.declared.items.Sign.{Sign}
@@ -151,20 +151,31 @@ pub unnamed : (o : Option Sign) (xs : List Item) (p : ℕ) → isSome o ≡ fals
 unnamed None xs p e q = sym q
 unnamed (Some s) xs p e q = absurd (true≢false e)
 
--- a new item put into its place, as the code does it
-pub record Put (x : Item) (xs zs : List Item) : Type 0 where
-  pub is : zs ≡ insert x xs
-  pub rises : rising 0 zs ≡ true
-  pub taken : takes xs (x .plate) ≡ true
+-- what it is that items can take one more
+pub record Taken (xs : List Item) (p : ℕ) : Type 0 where
+  pub some : 0 < p
+  pub high : p ≤ 2097151
+  pub fresh : signAt xs p ≡ None
+  pub few : length xs < 32
 
-pub put : (x : Item) (xs ys zs : List Item) (n : ℕ) → rising 0 xs ≡ true → signAt xs (x .plate) ≡ None → (x .plate ≡ 0 → ⊥) → x .plate ≤ 2097151 → length xs < 32 → n ≡ placeOf (x .plate) ys → ys ≡ xs → zs ≡ take n xs ++ (x ∷ drop n xs) → Put x xs zs
-put x xs ys zs n r u some high few e same z =
-    let is : zs ≡ insert x xs = z ∙ sym (insert-at x xs n (e ∙ ap (placeOf (x .plate)) same) u) in
+pub taken : (xs : List Item) (p : ℕ) → takes xs p ≡ true → Taken xs p
+taken xs p h =
+    let a = and-parts _ _ h in
+    let plate = and-parts _ _ (a .0) in
+    let b = and-parts _ _ (a .1) in
     record {
-      is = is;
-      rises = ap (rising 0) is ∙ insert-rises x 0 xs (omega arith) high u r;
-      taken = and-from _ _ (and-from _ _ (lt-ltb 0 (x .plate) (omega arith)) (le-leb (x .plate) 2097151 high)) (and-from _ _ (ap (λ o. not (isSome o)) u) (lt-ltb (length xs) 32 few));
+      some = ltb-true _ _ (plate .0);
+      high = leb-true _ _ (plate .1);
+      fresh = unnamed (signAt xs p) xs p (not-true (names xs p) (b .0)) refl;
+      few = ltb-true _ _ (b .1);
     }
+
+-- a new item put into its place, as the code does it
+pub put-is : (x : Item) (xs ys zs : List Item) (n : ℕ) → Taken xs (x .plate) → n ≡ placeOf (x .plate) ys → ys ≡ xs → zs ≡ take n xs ++ (x ∷ drop n xs) → zs ≡ insert x xs
+put-is x xs ys zs n t e same z = z ∙ sym (insert-at x xs n (e ∙ ap (placeOf (x .plate)) same) (t .fresh))
+
+pub put-rises : (x : Item) (xs zs : List Item) → Taken xs (x .plate) → rising 0 xs ≡ true → zs ≡ insert x xs → rising 0 zs ≡ true
+put-rises x xs zs t r is = ap (rising 0) is ∙ insert-rises x 0 xs (t .some) (t .high) (t .fresh) r
 
 -- what two lists with the same first plate say of it, and of the others
 first-same : (x y : Item) (xs ys : List Item) → x .plate ≡ y .plate → ((p : ℕ) → signAt (x ∷ xs) p ≡ signAt (y ∷ ys) p) → x ≡ y

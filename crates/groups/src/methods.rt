@@ -1,10 +1,10 @@
 // What a spelled group answers, and how it takes one more item.
 ghost use mathlib.Core.Path.{_≡_};
-ghost use mathlib.Core.Bool.{cond};
+ghost use mathlib.Core.Bool.{cond, true};
 ghost use mathlib.Core.List.{[], _∷_, _++_};
 ghost use Prim.Native.Nat.{_+_, _<_, _≤_};
 ghost use lib.ListN.{length, take, drop};
-ghost use Rattle.groups.specs.Items.{signAt, insert, placeOf};
+ghost use Rattle.groups.specs.Items.{rising, signAt, insert, placeOf};
 ghost use Rattle.groups.specs.Groups.{itemsOf, takes};
 use super::group::Group;
 use super::items::Item;
@@ -36,13 +36,7 @@ impl Group {
     pub fn sign_of(&self, plate: u32) -> Option<Sign>
         ensures { λ r. ⌜ r ≡ signAt (itemsOf (now (self .entry))) plate ⌝ }
     {
-        let items = self.items();
-        let at = place_of(items, plate);
-        if at < items.len() && items[at].plate == plate {
-            Some(items[at].sign)
-        } else {
-            None
-        }
+        sign_among(self.items(), plate)
     }
 
     // Takes one more item, to its place by rising plates. False, and nothing taken, where the plate is no lever's or is
@@ -51,15 +45,42 @@ impl Group {
         ensures taken { λ r. ⌜ r ≡ takes (itemsOf (now (self .entry))) (item .plate) ⌝ }
         ensures after { λ r. ⌜ itemsOf (now (self .exit)) ≡ cond r (insert item (itemsOf (now (self .entry)))) (itemsOf (now (self .entry))) ⌝ }
     {
-        let count = self.count;
-        let known = self.sign_of(item.plate).is_some();
-        if item.plate == 0 || item.plate > HIGHEST_PLATE || known || count >= MOST_ITEMS {
-            return false;
+        let taken = self.takes(item.plate);
+        if taken {
+            self.put(item);
         }
+        taken
+    }
+
+    // Whether the group can take an item of a plate.
+    fn takes(&self, plate: u32) -> bool
+        ensures { λ r. ⌜ r ≡ takes (itemsOf (now (self .entry))) plate ⌝ }
+    {
+        plate > 0 && plate <= HIGHEST_PLATE && self.sign_of(plate).is_none() && self.items().len() < MOST_ITEMS
+    }
+
+    // Puts an item that the group can take into its place.
+    fn put(&mut self, item: Item)
+        requires { ⌜ takes (itemsOf (now self)) (item .plate) ≡ true ⌝ }
+        ensures { λ _. ⌜ itemsOf (now (self .exit)) ≡ insert item (itemsOf (now (self .entry))) ⌝ }
+    {
+        let count = self.count;
         let at = place_of(self.items(), item.plate);
         put_in(&mut self.items, count, at, item);
         self.count = count + 1;
-        true
+    }
+}
+
+// The sign that rising items give a plate, if they name it.
+fn sign_among(items: &[Item], plate: u32) -> Option<Sign>
+    requires { ⌜ rising 0 (now items) ≡ true ⌝ }
+    ensures { λ r. ⌜ r ≡ signAt (now (items .entry)) plate ⌝ }
+{
+    let at = place_of(items, plate);
+    if at < items.len() && items[at].plate == plate {
+        Some(items[at].sign)
+    } else {
+        None
     }
 }
 

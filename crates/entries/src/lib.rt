@@ -60,7 +60,7 @@ fn group_line(number: u32, group: &Group) -> Line
 {
     let mut line = Line::new();
     line.put_number(u64::from(number));
-    line.put(b' ');
+    line.put_text(b" ");
     line.put_group(group);
     line
 }

@@ -48,24 +48,11 @@ impl Line {
         self.len
     }
 
-    // Puts a byte behind the text, unless the line is full.
-    pub fn put(&mut self, byte: u8)
-        ensures { λ _. ⌜ textOf (now (self .exit)) ≡ cut (textOf (now (self .entry)) ++ (byte ∷ [])) ⌝ }
-    {
-        let len = self.len;
-        if len < LINE {
-            self.bytes[len] = byte;
-            self.len = len + 1;
-        }
-    }
-
     // Puts a text behind the text, as far as the line holds it.
     pub fn put_text(&mut self, text: &[u8])
         ensures { λ _. ⌜ textOf (now (self .exit)) ≡ cut (textOf (now (self .entry)) ++ now (text .entry)) ⌝ }
     {
-        for byte in text {
-            self.put(*byte);
-        }
+        self.append(text);
     }
 
     // Puts a number behind the text, as far as the line holds it. It has at most 20 digits.
@@ -73,49 +60,14 @@ impl Line {
         ensures after { λ _. ⌜ textOf (now (self .exit)) ≡ cut (textOf (now (self .entry)) ++ decimal number) ⌝ }
         ensures short { λ _. ⌜ length (decimal number) ≤ 20 ⌝ }
     {
-        if number < 10 {
-            self.put(b'0' + number as u8);
-        } else {
-            self.put_number(number / 10);
-            self.put(b'0' + (number % 10) as u8);
-        }
-    }
-
-    // Puts an item behind the text.
-    fn put_item(&mut self, item: Item)
-        ensures { λ _. ⌜ textOf (now (self .exit)) ≡ cut (textOf (now (self .entry)) ++ itemText item) ⌝ }
-    {
-        self.put_number(u64::from(item.plate));
-        self.put(mark(item.sign));
-    }
-
-    // Puts items behind the text, each with a space in front.
-    fn put_next(&mut self, items: &[Item])
-        ensures { λ _. ⌜ textOf (now (self .exit)) ≡ cut (textOf (now (self .entry)) ++ joined nextText (now (items .entry))) ⌝ }
-    {
-        for item in items {
-            self.put(b' ');
-            self.put_item(*item);
-        }
-    }
-
-    // Puts items behind the text, with a space between.
-    fn put_row(&mut self, items: &[Item])
-        ensures { λ _. ⌜ textOf (now (self .exit)) ≡ cut (textOf (now (self .entry)) ++ rowText (now (items .entry))) ⌝ }
-    {
-        if !items.is_empty() {
-            self.put_item(items[0]);
-            self.put_next(&items[1..]);
-        }
+        self.append_digits(number);
     }
 
     // Puts a group behind the text, as far as the line holds it.
     pub fn put_group(&mut self, group: &Group)
         ensures { λ _. ⌜ textOf (now (self .exit)) ≡ cut (textOf (now (self .entry)) ++ groupText (itemsOf (now (group .entry)))) ⌝ }
     {
-        self.put(b'(');
-        self.put_row(group.items());
-        self.put(b')');
+        self.append_items(group.items());
     }
 
     // Writes the line into a buffer, from its first byte on.
@@ -128,6 +80,78 @@ impl Line {
         }
         buffer[0..self.len].copy_from_slice(&self.bytes[0..self.len]);
         Ok(Some(self.len))
+    }
+}
+
+impl Line {
+    // One byte behind the text, unless the line is full.
+    fn push(&mut self, byte: u8)
+        ensures { λ _. ⌜ textOf (now (self .exit)) ≡ cut (textOf (now (self .entry)) ++ (byte ∷ [])) ⌝ }
+    {
+        let len = self.len;
+        if len < LINE {
+            self.bytes[len] = byte;
+            self.len = len + 1;
+        }
+    }
+
+    // A text behind the text, byte by byte.
+    fn append(&mut self, text: &[u8])
+        ensures { λ _. ⌜ textOf (now (self .exit)) ≡ cut (textOf (now (self .entry)) ++ now (text .entry)) ⌝ }
+    {
+        for byte in text {
+            self.push(*byte);
+        }
+    }
+
+    // The digits of a number behind the text, the front ones first.
+    fn append_digits(&mut self, number: u64)
+        ensures after { λ _. ⌜ textOf (now (self .exit)) ≡ cut (textOf (now (self .entry)) ++ decimal number) ⌝ }
+        ensures short { λ _. ⌜ length (decimal number) ≤ 20 ⌝ }
+    {
+        if number < 10 {
+            self.push(b'0' + number as u8);
+        } else {
+            self.append_digits(number / 10);
+            self.push(b'0' + (number % 10) as u8);
+        }
+    }
+
+    // An item behind the text.
+    fn append_item(&mut self, item: Item)
+        ensures { λ _. ⌜ textOf (now (self .exit)) ≡ cut (textOf (now (self .entry)) ++ itemText item) ⌝ }
+    {
+        self.append_digits(u64::from(item.plate));
+        self.push(mark(item.sign));
+    }
+
+    // Items behind the text, each with a space in front.
+    fn append_next(&mut self, items: &[Item])
+        ensures { λ _. ⌜ textOf (now (self .exit)) ≡ cut (textOf (now (self .entry)) ++ joined nextText (now (items .entry))) ⌝ }
+    {
+        for item in items {
+            self.push(b' ');
+            self.append_item(*item);
+        }
+    }
+
+    // Items behind the text, with a space between.
+    fn append_row(&mut self, items: &[Item])
+        ensures { λ _. ⌜ textOf (now (self .exit)) ≡ cut (textOf (now (self .entry)) ++ rowText (now (items .entry))) ⌝ }
+    {
+        if !items.is_empty() {
+            self.append_item(items[0]);
+            self.append_next(&items[1..]);
+        }
+    }
+
+    // Items in brackets behind the text.
+    fn append_items(&mut self, items: &[Item])
+        ensures { λ _. ⌜ textOf (now (self .exit)) ≡ cut (textOf (now (self .entry)) ++ groupText (now (items .entry))) ⌝ }
+    {
+        self.push(b'(');
+        self.append_row(items);
+        self.push(b')');
     }
 }
 
@@ -180,5 +204,14 @@ pub fn write_group(group: Option<&Group>, buffer: &mut [u8]) -> Result<Option<us
     let Some(group) = group else {
         return write_nothing(buffer);
     };
+    write_one(group, buffer)
+}
+
+// Writes one group.
+fn write_one(group: &Group, buffer: &mut [u8]) -> Result<Option<usize>, Fault>
+    ensures answer { λ r. ⌜ r ≡ writeAnswer (Some (groupText (itemsOf (now (group .entry))))) (now (buffer .entry)) ⌝ }
+    ensures after { λ r. ⌜ now (buffer .exit) ≡ writeAfter (Some (groupText (itemsOf (now (group .entry))))) (now (buffer .entry)) ⌝ }
+    ensures back { λ r. ⌜ ReadsBack (Some (itemsOf (now (group .entry)))) r (now (buffer .exit)) ⌝ }
+{
     group_line(group).write(buffer)
 }

@@ -7,7 +7,7 @@ use Rattle.groups.proofs.Rising.{blank}
 use Rattle.writing.specs.Lines.{textOf, cut}
 use Rattle.writing.specs.Texts.{itemText, nextText}
 use Rattle.writing.proofs.Cuts.{behind, unchanged}
-use Rattle.writing.proofs.line.Line.put_next.Needs as need
+use Rattle.writing.proofs.line.Line.append_next.Needs as need
 
 pub loop-item-holds : need.loop-item-holds
 loop-item-holds c = unchanged (c .args .self .now)
@@ -16,8 +16,8 @@ pub loop-item-again : need.loop-item-again
 loop-item-again c =
     let xs = take (c .loop-item .item-index) (c .args .items .now) in
     let x = getD (c .args .items .now) (c .loop-item .item-index) blank in
-    let spaced = behind (textOf (c .args .self .now)) (joined nextText xs) (32 ∷ []) (textOf (c .loop-item .self)) (textOf (c .put .last .self)) (c .loop-item .inv) (c .put .ensures) in
-    behind (textOf (c .args .self .now)) (joined nextText xs ++ (32 ∷ [])) (itemText x) (textOf (c .put .last .self)) (textOf (c .put-item .last .self)) spaced (c .put-item .ensures)
+    let spaced = behind (textOf (c .args .self .now)) (joined nextText xs) (32 ∷ []) (textOf (c .loop-item .self)) (textOf (c .push .last .self)) (c .loop-item .inv) (c .push .ensures) in
+    behind (textOf (c .args .self .now)) (joined nextText xs ++ (32 ∷ [])) (itemText x) (textOf (c .push .last .self)) (textOf (c .append-item .last .self)) spaced (c .append-item .ensures)
     ∙ ap (λ l. cut (textOf (c .args .self .now) ++ l)) (append-assoc (joined nextText xs) (32 ∷ []) (itemText x) ∙ joined-more nextText [] xs x ∙ ap (joined nextText) (sym (take-more (c .args .items .now) (c .loop-item .item-index) blank (c .loop-item-test .taken))))
 
 pub returns : need.returns

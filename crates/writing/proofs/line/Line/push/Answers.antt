@@ -1,5 +1,5 @@
 use Rattle.writing.proofs.Cuts.{put-more, put-full}
-use Rattle.writing.proofs.line.Line.put.Needs as need
+use Rattle.writing.proofs.line.Line.push.Needs as need
 
 pub returns-then-len-lt-LINE : need.returns-then-len-lt-LINE
 returns-then-len-lt-LINE c = put-more (c .args .self .now .bytes) (c .args .self .now .len) (c .args .byte) (c .args .self .now .long) (c .if-len-lt-LINE .taken)

@@ -11,12 +11,12 @@ use Rattle.groups.proofs.Rising.{blank}
 use Rattle.writing.specs.Lines.{textOf, cut}
 use Rattle.writing.specs.Texts.{itemText, nextText, rowText}
 use Rattle.writing.proofs.Cuts.{behind, unchanged}
-use Rattle.writing.proofs.line.Line.put_row.Needs as need
+use Rattle.writing.proofs.line.Line.append_row.Needs as need
 
 pub returns-then-not-is-empty : need.returns-then-not-is-empty
 returns-then-not-is-empty c =
     let xs = c .args .items .now in
-    behind (textOf (c .args .self .now)) (itemText (getD xs 0 blank)) (joined nextText (between 1 (length xs) xs)) (textOf (c .put-item .last .self)) (textOf (c .put-next .last .self)) (c .put-item .ensures) (c .put-next .ensures)
+    behind (textOf (c .args .self .now)) (itemText (getD xs 0 blank)) (joined nextText (between 1 (length xs) xs)) (textOf (c .append-item .last .self)) (textOf (c .append-next .last .self)) (c .append-item .ensures) (c .append-next .ensures)
     ∙ ap (λ l. cut (textOf (c .args .self .now) ++ rowText l)) (sym (first-rest xs blank (omega (arith, eqb-false _ _ (sym (c .if-not-is-empty .ensures tt))))))
 
 pub returns-else-not-is-empty : need.returns-else-not-is-empty

@@ -4,7 +4,7 @@ use lib.ListN.{take}
 use Rattle.std.specs.Joined.{joined}
 use Rattle.writing.specs.Lines.{textOf, cut}
 use Rattle.writing.specs.Texts.{nextText}
-use Rattle.writing.proofs.line.Line.put_next.Given as given
+use Rattle.writing.proofs.line.Line.append_next.Given as given
 
 abbrev pub Inv-loop-item : given.InvT-loop-item
 Inv-loop-item l = textOf (l .self) ≡ cut (textOf (l .entry .self) ++ joined nextText (take (l .item-index) (l .items)))

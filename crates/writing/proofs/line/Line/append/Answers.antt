@@ -4,7 +4,7 @@ use lib.ListN.{take, getD}
 use Rattle.std.proofs.shelf.Lists.{take-more, take-all}
 use Rattle.writing.specs.Lines.{textOf, cut}
 use Rattle.writing.proofs.Cuts.{behind, unchanged}
-use Rattle.writing.proofs.line.Line.put_text.Needs as need
+use Rattle.writing.proofs.line.Line.append.Needs as need
 
 pub loop-byte-holds : need.loop-byte-holds
 loop-byte-holds c = unchanged (c .args .self .now)
@@ -13,7 +13,7 @@ pub loop-byte-again : need.loop-byte-again
 loop-byte-again c =
     let i = c .loop-byte .byte-index in
     let text = c .args .text .now in
-    behind (textOf (c .args .self .now)) (take i text) (getD text i 0 ∷ []) (textOf (c .loop-byte .self)) (textOf (c .put .last .self)) (c .loop-byte .inv) (c .put .ensures)
+    behind (textOf (c .args .self .now)) (take i text) (getD text i 0 ∷ []) (textOf (c .loop-byte .self)) (textOf (c .push .last .self)) (c .loop-byte .inv) (c .push .ensures)
     ∙ ap (λ l. cut (textOf (c .args .self .now) ++ l)) (sym (take-more text i 0 (c .loop-byte-test .taken)))
 
 pub returns : need.returns

@@ -6,18 +6,18 @@ use Rattle.std.specs.Written.{decimal}
 use Rattle.std.proofs.shelf.Decimals.{decimal-digit, decimal-step, length-decimal-le}
 use Rattle.writing.specs.Lines.{textOf, cut}
 use Rattle.writing.proofs.Cuts.{behind}
-use Rattle.writing.proofs.line.Line.+put_number.Needs as need
+use Rattle.writing.proofs.line.Line.+append_digits.Needs as need
 
 pub returns-then-number-lt10 : need.returns-then-number-lt10
 returns-then-number-lt10 t c = record {
-  after = c .put .ensures ∙ ap (λ l. cut (textOf (c .args .self .now) ++ l)) (sym (decimal-digit (c .args .number) (c .if-number-lt10 .taken)));
+  after = c .push .ensures ∙ ap (λ l. cut (textOf (c .args .self .now) ++ l)) (sym (decimal-digit (c .args .number) (c .if-number-lt10 .taken)));
   short = length-decimal-le 20 (c .args .number) (omega arith) (let f = c .fits .number .fits in omega arith) (c .fits .number .fits);
 }
 
 pub returns-else-number-lt10 : need.returns-else-number-lt10
 returns-else-number-lt10 t c = record {
   after =
-    behind (textOf (c .args .self .now)) (decimal (c .args .number / 10)) ((48 + c .args .number % 10) ∷ []) (textOf (c .put-number .last .self)) (textOf (c .put-else-number-lt10 .last .self)) (c .put-number .ensures .after) (c .put-else-number-lt10 .ensures)
+    behind (textOf (c .args .self .now)) (decimal (c .args .number / 10)) ((48 + c .args .number % 10) ∷ []) (textOf (c .append-digits .last .self)) (textOf (c .push-else-number-lt10 .last .self)) (c .append-digits .ensures .after) (c .push-else-number-lt10 .ensures)
     ∙ ap (λ l. cut (textOf (c .args .self .now) ++ l)) (sym (decimal-step (c .args .number) (c .if-number-lt10 .left) (c .fits .number .fits)));
   short = length-decimal-le 20 (c .args .number) (omega arith) (let f = c .fits .number .fits in omega arith) (c .fits .number .fits);
 }

@@ -51,7 +51,8 @@ pub fn answer_group(text: &[u8], number: u32, buffer: &mut [u8]) -> Result<Readi
     let group = read_group(text, 0)?;
     let line = group_line(number, &group);
     line.write(buffer)?;
-    Ok(Reading { group, length: line.len() })
+    let length = line.text().len();
+    Ok(Reading { group, length })
 }
 
 // The answer line of a group that was read.

@@ -133,23 +133,39 @@ fn read_items(mut group: Group, room: usize, text: &[u8], at: usize) -> Result<G
     }
 }
 
+// Reads an opening bracket and what stands behind it, to the end.
+fn bracketed(text: &[u8], at: usize) -> Result<Group, TextFault>
+    ensures value { λ r. ⌜ heldBy r ≡ readGroup at (now (text .entry)) ⌝ }
+    ensures right { λ r. ⌜ RightAnswer at (now (text .entry)) (heldBy r) ⌝ }
+{
+    open_due(&next_token(text, at))?;
+    read_items(Group::new(), MOST_READ, skip(text, 1), at.saturating_add(1))
+}
+
+// Reads a number and the end.
+fn whole_number(text: &[u8], at: usize) -> Result<u32, TextFault>
+    ensures value { λ r. ⌜ r ≡ readPlate at (now (text .entry)) ⌝ }
+    ensures right { λ r. ⌜ RightNumber at (now (text .entry)) r ⌝ }
+{
+    let number = next_token(text, at);
+    let plate = number_due(&number)?;
+    let length = number.digits().len();
+    end_due(skip(text, length), at.saturating_add(length))?;
+    Ok(plate)
+}
+
 // Reads a group. The text's first byte stands at `start`, from which places count.
 pub fn read_group(text: &[u8], start: usize) -> Result<Group, TextFault>
     ensures value { λ r. ⌜ heldBy r ≡ readGroup start (now (text .entry)) ⌝ }
     ensures right { λ r. ⌜ RightAnswer start (now (text .entry)) (heldBy r) ⌝ }
 {
-    open_due(&next_token(text, start))?;
-    read_items(Group::new(), MOST_READ, skip(text, 1), start.saturating_add(1))
+    bracketed(text, start)
 }
 
-// Reads the number of a plate and the end. The text's first byte stands at `start`, from which places count.
+// Reads the number of a plate. The text's first byte stands at `start`, from which places count.
 pub fn read_plate(text: &[u8], start: usize) -> Result<u32, TextFault>
     ensures value { λ r. ⌜ r ≡ readPlate start (now (text .entry)) ⌝ }
     ensures right { λ r. ⌜ RightNumber start (now (text .entry)) r ⌝ }
 {
-    let number = next_token(text, start);
-    let plate = number_due(&number)?;
-    let length = number.digits().len();
-    end_due(skip(text, length), start.saturating_add(length))?;
-    Ok(plate)
+    whole_number(text, start)
 }

@@ -8,7 +8,7 @@ ghost use Rattle.reading.specs.Tokens.{TokenOf, tokenDigits, tokenSymbol, toke
 
 // A word of a text: the part of the text that it is, and the place where it stands.
 #[derive(Clone, Copy)]
-pub enum Token<'a> {
+pub(super) enum Token<'a> {
     // the longest run of digits
     Number { digits: &'a [u8], at: usize },
     // one byte that is no digit
@@ -18,7 +18,7 @@ pub enum Token<'a> {
 }
 
 // The token at the front of a text, which begins at a place.
-pub fn next_token(text: &[u8], at: usize) -> Token<'_>
+pub(super) fn next_token(text: &[u8], at: usize) -> Token<'_>
     ensures { λ r. ⌜ TokenOf at (now (text .entry)) r ⌝ }
 {
     if text.is_empty() {
@@ -43,7 +43,7 @@ fn run_of_digits(text: &[u8]) -> usize
 }
 
 // The text without its first n bytes.
-pub fn skip(text: &[u8], n: usize) -> &[u8]
+pub(super) fn skip(text: &[u8], n: usize) -> &[u8]
     ensures { λ r. ⌜ now r ≡ drop n (now (text .entry)) ⌝ }
 {
     if n < text.len() { &text[n..] } else { &[] }
@@ -61,7 +61,7 @@ fn first_char(text: &[u8]) -> Option<char>
 
 impl<'a> Token<'a> {
     // The digits of a number, else none.
-    pub fn digits(&self) -> &'a [u8]
+    pub(super) fn digits(&self) -> &'a [u8]
         ensures { λ r. ⌜ now r ≡ tokenDigits (now (self .entry)) ⌝ }
     {
         match self {
@@ -71,7 +71,7 @@ impl<'a> Token<'a> {
     }
 
     // The character of a mark.
-    pub fn symbol(&self) -> Option<char>
+    pub(super) fn symbol(&self) -> Option<char>
         ensures { λ r. ⌜ r ≡ tokenSymbol (now (self .entry)) ⌝ }
     {
         match self {
@@ -81,7 +81,7 @@ impl<'a> Token<'a> {
     }
 
     // Where the token stands.
-    pub fn place(&self) -> usize
+    pub(super) fn place(&self) -> usize
         ensures { λ r. ⌜ r ≡ tokenPlace (now (self .entry)) ⌝ }
     {
         match self {

@@ -41,11 +41,11 @@ impl Line {
         Line { bytes: [0; 320], len: 0 }
     }
 
-    // How many bytes of text there are.
-    pub fn len(&self) -> usize
-        ensures { λ r. ⌜ r ≡ length (textOf (now (self .entry))) ⌝ }
+    // The text.
+    pub fn text(&self) -> &[u8]
+        ensures { λ r. ⌜ now r ≡ textOf (now (self .entry)) ⌝ }
     {
-        self.len
+        &self.bytes[0..self.len]
     }
 
     // Puts a text behind the text, as far as the line holds it.
@@ -78,8 +78,10 @@ impl Line {
         if buffer.len() < LINE {
             return Err(Refusal::ShortBuffer.at(Place::Nowhere));
         }
-        buffer[0..self.len].copy_from_slice(&self.bytes[0..self.len]);
-        Ok(Some(self.len))
+        let text = self.text();
+        let length = text.len();
+        buffer[0..length].copy_from_slice(text);
+        Ok(Some(length))
     }
 }
 

@@ -2,7 +2,7 @@ use mathlib.Core.Path.{ap}
 use Rattle.placed.specs.Spelling.{spell}
 use Rattle.placed.proofs.Ends.{equal-groups}
 use Rattle.placed.proofs.Spelled.{same-spelled}
-use Rattle.placed.proofs.Placed.same.Needs as need
+use Rattle.placed.proofs.Placed.ends_agree.Needs as need
 
 pub returns : need.returns
 returns c ps r v w =

@@ -1,7 +1,7 @@
 use Rattle.std.proofs.shelf.Tests.{both-ways}
 use Rattle.std.proofs.shelf.Ways.{same-from-decides}
 use Rattle.placed.proofs.Spelled.{covers-ends}
-use Rattle.placed.proofs.Placed.covers.Needs as need
+use Rattle.placed.proofs.Placed.ends_within.Needs as need
 
 pub returns-then-within : need.returns-then-within
 returns-then-within c ps r w =

@@ -117,7 +117,11 @@ impl Refusal {
         ensures { λ r. ⌜ r ≡ faultOf self place ⌝ }
     {
         let number = self.number();
-        Fault { number, layer: layer_of(number), place }
+        Fault {
+            number,
+            layer: layer_of(number),
+            place,
+        }
     }
 
     // The fault of this refusal at a byte of a text.

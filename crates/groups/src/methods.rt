@@ -21,8 +21,14 @@ impl Group {
     pub fn new() -> Group
         ensures { λ r. ⌜ itemsOf r ≡ [] ⌝ }
     {
-        let blank = Item { plate: 0, sign: Sign::Plus };
-        Group { items: [blank; 32], count: 0 }
+        let blank = Item {
+            plate: 0,
+            sign: Sign::Plus,
+        };
+        Group {
+            items: [blank; 32],
+            count: 0,
+        }
     }
 
     // The items in rising plates.

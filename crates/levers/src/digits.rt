@@ -17,11 +17,7 @@ pub(super) fn digit(bits: u32, place: usize) -> bool
 pub(super) fn with_digit(bits: u32, place: usize) -> u32
     ensures { λ r. ⌜ ((k : ℕ) → digit r k ≡ (digit bits k || (eqb k place && ltb place 32))) ⌝ }
 {
-    if place < 32 {
-        bits | 1 << place
-    } else {
-        bits
-    }
+    if place < 32 { bits | 1 << place } else { bits }
 }
 
 // The number with the digit at a place set to 0.

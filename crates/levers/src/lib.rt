@@ -5,6 +5,7 @@ ghost use Prim.Native.Nat.{ℕ};
 ghost use lib.Dec.{eqb, ltb};
 ghost use Rattle.std.specs.Orderings.{Decides};
 ghost use Rattle.levers.specs.Sets.{has};
+
 mod digits;
 
 // A set of places from 0 to 31: digit k of the bits stands for place k.

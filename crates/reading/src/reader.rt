@@ -139,7 +139,12 @@ pub fn read_group(text: &[u8], start: usize) -> Result<Group, TextFault>
     ensures right { λ r. ⌜ RightAnswer start (now (text .entry)) (heldBy r) ⌝ }
 {
     open_due(&next_token(text, start))?;
-    read_items(Group::new(), MOST_READ, skip(text, 1), start.saturating_add(1))
+    read_items(
+        Group::new(),
+        MOST_READ,
+        skip(text, 1),
+        start.saturating_add(1),
+    )
 }
 
 // Reads the number of a plate and the end. The text's first byte stands at `start`, from which places count.

@@ -37,7 +37,10 @@ impl Line {
     pub fn new() -> Line
         ensures { λ r. ⌜ textOf r ≡ [] ⌝ }
     {
-        Line { bytes: [0; 320], len: 0 }
+        Line {
+            bytes: [0; 320],
+            len: 0,
+        }
     }
 
     // Puts a byte behind the text, unless the line is full.

@@ -16,6 +16,6 @@ returns c =
     (λ (o : Option (RefT Group)). record {
       answer : c .write .result ≡ writeAnswer (mapped (λ g. groupText (itemsOf (now g))) o) (c .args .buffer .now);
       after : c .write .last .buffer ≡ writeAfter (mapped (λ g. groupText (itemsOf (now g))) o) (c .args .buffer .now);
-      back : ReadsBack (mapped (λ g. itemsOf (now g)) o) (c .write .result) (c .write .last .buffer)
+      back : ReadsBack (mapped (λ g. itemsOf (now g)) o) (c .write .result) (c .write .last .buffer);
     })
     (sym (c .in-Some .is)) (record { answer = w .answer; after = w .after-is; back = w .back })

@@ -8,11 +8,10 @@ use Rattle.groups.proofs.group.Group.insert.Needs as need
 use Rattle.groups.proofs.group.Group.insert.Needs.{After-put-in}
 
 pub put-in-requires : need.put-in-requires
-put-in-requires c κs =
-    (
-      omega (arith, place-within (c .args .item .plate) (c .items .result .now), c .place-of-at .ensures, ap length (c .items .ensures), length-take (c .args .self .now .count) (c .args .self .now .items)),
-      omega (arith, c .args .self .now .long, c .if-count-ge-MOST-ITEMS .left),
-    )
+put-in-requires c κs = (
+  omega (arith, place-within (c .args .item .plate) (c .items .result .now), c .place-of-at .ensures, ap length (c .items .ensures), length-take (c .args .self .now .count) (c .args .self .now .items)),
+  omega (arith, c .args .self .now .long, c .if-count-ge-MOST-ITEMS .left),
+)
 
 done : (c : After-put-in) → Put (c .args .item) (itemsOf (c .args .self .now)) (take (c .args .self .now .count + 1) (c .put-in .last .items))
 done c =

@@ -16,8 +16,8 @@ pub returns-else-at-items : need.returns-else-at-items
 returns-else-at-items c =
     let e = c .items-items .ensures in
     sym (sign-missing (c .args .plate) 0 (c .items-items .result .now) blank _ (ap (rising 0) e ∙ c .args .self .now .rises) (c .place-of-at .ensures)
-      (λ lt q. elim (c .else-at-items .came) [
-        else-at-items·by·then-at-items·else-items-at w ↦ w .if-items-at .left q
+    (λ lt q. elim (c .else-at-items .came) [
+      | else-at-items·by·then-at-items·else-items-at w ↦ w .if-items-at .left q
       | else-at-items·by·else-at-items w ↦ omega (arith, lt, w .if-at-items .left)
-      ]))
+    ]))
     ∙ ap (λ l. signAt l (c .args .plate)) e

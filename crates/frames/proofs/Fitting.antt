@@ -1,25 +1,20 @@
 -- Where a plate stands among fitted ones, and one more plate behind them. Assumes nothing.
-use mathlib.Core.Path.{_≡_, refl, sym, ap, _∙_}
-use mathlib.Core.Bool.{true, not}
+use mathlib.Core.Path.{_≡_, refl, sym, ap, subst, _∙_}
+use mathlib.Core.Bool.{true}
 use mathlib.Core.List.{List, [], _∷_, _++_}
 use mathlib.Core.Logic.{⊎-elim}
 use Prim.Native.Nat.{ℕ, zero, suc, _-_, _<_, _≤_}
 use native.Mathlib.Omega.{arith}
+use lib.Dec.{ltb}
 use lib.ListN.{length, getD, take}
 use Rattle.std.specs.Options.{mapped}
 use Rattle.std.specs.declared.option.Option.the-variants.{Some, None}
-use Rattle.std.proofs.shelf.Tests.{eq-eqb, ne-eqb, lt-ltb, le-leb, lt-leb, and-from, cond-true, cond-false, cases-eq, cases-bool}
-use Rattle.std.proofs.shelf.Lists.{length-take-le, getD-take}
-use Rattle.faults.specs.declared.Refusal.the-variants.{NotAbove, FrameFull}
+use Rattle.std.proofs.shelf.Tests.{eq-eqb, ne-eqb, ltb-true, leb-true, and-parts, cond-true, cond-false, cases-eq}
+use Rattle.std.proofs.shelf.Ways.{tells, same-from-decides, decides-ltb}
 use Rattle.groups.specs.Items.{isPlate}
 use Rattle.placed.specs.Rises.{climbing}
 use Rattle.placed.proofs.Climbing.{climbing-step, climbing-more, climbing-above, one-place, place-cases}
-use Rattle.frames.specs.declared.plates.Plates.{Plates}
-use Rattle.frames.specs.Fitted.{fitted, placeIn, fitRefusal}
-
--- a frame has at most 32 levers
-pub few-plates : (f : Plates) → length (fitted f) ≤ 32
-few-plates f = let n = f .few in omega (arith, length-take-le (f .count) (f .plates) (omega (arith, f .long)))
+use Rattle.frames.specs.Fitted.{placeIn, fitRefusal}
 
 -- the first place of a plate
 pub place-first : (ps : List ℕ) (p i : ℕ) → i < length ps → getD ps i 0 ≡ p → ((k : ℕ) → k < i → getD ps k 0 ≡ p → ⊥) → placeIn ps p ≡ Some i
@@ -95,41 +90,23 @@ climbing-last low [] p j r l = absurd (omega arith)
 climbing-last low (q ∷ qs) p zero r l = climbing-end q qs p (climbing-step low q (qs ++ (p ∷ [])) r .rest)
 climbing-last low (q ∷ qs) p (suc j) r l = climbing-last q qs p j (climbing-step low q (qs ++ (p ∷ [])) r .rest) (omega arith)
 
--- one more plate behind the first n: what it climbs over, and why it is refused
-module _ (xs : List ℕ) (n p : ℕ) (within : n ≤ length xs) (rises : climbing 0 (take n xs) ≡ true) (some : p ≡ 0 → ⊥) (high : p ≤ 2097151) where
-  is-plate : isPlate p ≡ true
-  is-plate = and-from _ _ (lt-ltb 0 p (omega arith)) (le-leb p 2097151 high)
-
-  -- the last plate, as the code reads it
-  last-plate : (j : ℕ) → suc j ≡ n → getD xs (n - 1) 0 ≡ getD (take n xs) j 0
-  last-plate j e = ap (λ k. getD xs k 0) (let k : n - 1 ≡ j = omega arith in k) ∙ sym (getD-take n xs j 0 (omega arith))
-
-  pub climbs : (0 < n → getD xs (n - 1) 0 < p) → climbing 0 (take n xs ++ (p ∷ [])) ≡ true
+-- a lever's plate climbs on where it lies above the last one, and nowhere else
+module _ (ps : List ℕ) (p : ℕ) (rises : climbing 0 ps ≡ true) (lever : isPlate p ≡ true) where
+  climbs : ((j : ℕ) → suc j ≡ length ps → getD ps j 0 < p) → climbing 0 (ps ++ (p ∷ [])) ≡ true
   climbs above =
-      climbing-push 0 (take n xs) p rises (omega arith) high (λ j e.
-      let l : suc j ≡ n = e ∙ length-take-le n xs within in
-      let q = last-plate j l in
-      let a = above (omega arith) in
-      omega arith)
+      let h = and-parts _ _ lever in
+      climbing-push 0 ps p rises (ltb-true 0 p (h .0)) (leb-true p 2097151 (h .1)) above
 
-  pub refused-below : 0 < n → p ≤ getD xs (n - 1) 0 → fitRefusal (take n xs) p ≡ Some NotAbove
-  refused-below l below =
-      cond-false _ _ _ (ap not is-plate)
-      ∙ cond-true _ _ _ (ap not (⊎-elim (λ t. absurd (too-high t)) (λ f. f) (cases-bool (climbing 0 (take n xs ++ (p ∷ []))))))
-    where
-      too-high : climbing 0 (take n xs ++ (p ∷ [])) ≡ true → ⊥
-      too-high t =
-          let long = length-take-le n xs within in
-          let q = last-plate (n - 1) (omega arith) in
-          let a = climbing-last 0 (take n xs) p (n - 1) t (omega arith) in
-          omega arith
+  pub climbs-first : length ps ≡ 0 → true ≡ climbing 0 (ps ++ (p ∷ []))
+  climbs-first none = sym (climbs (λ j e. absurd (omega arith)))
 
-  pub refused-full : (0 < n → getD xs (n - 1) 0 < p) → 32 ≤ n → fitRefusal (take n xs) p ≡ Some FrameFull
-  refused-full above full =
-      cond-false _ _ _ (ap not is-plate) ∙ cond-false _ _ _ (ap not (climbs above))
-      ∙ cond-true _ _ _ (le-leb 32 (length (take n xs)) (let long = length-take-le n xs within in omega arith))
+  pub climbs-behind : 0 < length ps → ltb (getD ps (length ps - 1) 0) p ≡ climbing 0 (ps ++ (p ∷ []))
+  climbs-behind some =
+      same-from-decides _ _ (decides-ltb (getD ps (length ps - 1) 0) p) (
+        (λ t. climbing-last 0 ps p (length ps - 1) t (omega arith)),
+        (λ l. climbs (λ j e. subst (λ k. getD ps k 0 < p) (let k : length ps - 1 ≡ j = omega arith in k) l)),
+      )
 
-  pub not-refused : (0 < n → getD xs (n - 1) 0 < p) → n < 32 → fitRefusal (take n xs) p ≡ None
-  not-refused above few =
-      cond-false _ _ _ (ap not is-plate) ∙ cond-false _ _ _ (ap not (climbs above))
-      ∙ cond-false _ _ _ (lt-leb 32 (length (take n xs)) (let long = length-take-le n xs within in omega arith))
+-- what a plate that is not refused says
+pub fits-behind : (ps : List ℕ) (p : ℕ) → fitRefusal ps p ≡ None → (climbing 0 (ps ++ (p ∷ [])) ≡ true) × (length ps < 32)
+fits-behind ps p h = (grind (arith, tells), grind (arith, tells))

@@ -1,6 +1,6 @@
 -- Items that are taken into a frame one by one. Assumes nothing.
 use mathlib.Core.Path.{_≡_, refl, sym, ap, _∙_, subst}
-use mathlib.Core.Bool.{true, false, cond, _&&_}
+use mathlib.Core.Bool.{true, cond, _&&_}
 use mathlib.Core.List.{List, [], _∷_}
 use mathlib.Core.Logic.{⊎-elim}
 use Prim.Native.Nat.{ℕ, _+_, _<_, _≤_}
@@ -12,10 +12,10 @@ use Rattle.std.specs.Options.{isSome}
 use Rattle.std.specs.declared.option.Option.{Option}
 use Rattle.std.specs.declared.option.Option.the-variants.{Some, None}
 use Rattle.std.proofs.shelf.Lists.{drop-more}
-use Rattle.std.proofs.shelf.Tests.{eq-eqb, ne-eqb, lt-ltb, and-from, and-left, cond-true, cond-false, cases-eq, cases-bool}
+use Rattle.std.proofs.shelf.Tests.{eq-eqb, ne-eqb, lt-ltb, and-from, and-left, cond-true, cond-false, both-ways, cases-eq, cases-lt}
 use Rattle.groups.specs.declared.items.Item.{Item}
 use Rattle.groups.specs.declared.items.Sign.{Sign}
-use Rattle.groups.specs.Items.{rising, signAt}
+use Rattle.groups.specs.Items.{rising, signAt, names}
 use Rattle.groups.proofs.Rising.{blank, unnamed-below, same-signs}
 use Rattle.placed.specs.declared.Placed.{Placed}
 use Rattle.placed.specs.Rises.{climbing}
@@ -23,7 +23,7 @@ use Rattle.placed.specs.Signs.{signOn, Within}
 use Rattle.placed.specs.Spelling.{spell}
 use Rattle.placed.proofs.Climbing.{one-place, place-cases}
 use Rattle.placed.proofs.Spelled.{spelled-rises, spelled-sign, spelled-none}
-use Rattle.frames.specs.Fitted.{placeIn, missing}
+use Rattle.frames.specs.Fitted.{placeIn, LowestMissing}
 use Rattle.frames.proofs.Fitting.{place-none, place-found}
 use Rattle.frames.proofs.Items.{rest-rises}
 
@@ -38,13 +38,13 @@ first-none (Some s) = refl
 
 -- all but `rest` of the items are in the group g
 pub record Placing (ps : List ℕ) (items rest : List Item) (g : Placed) : Type 0 where
-  pub same : missing ps rest ≡ missing ps items
+  pub unfitted : (q : ℕ) → placeIn ps q ≡ None → signAt rest q ≡ signAt items q
   pub signs : (j : ℕ) → j < length ps → first (signAt rest (getD ps j 0)) (signOn g j) ≡ signAt items (getD ps j 0)
   pub within : Within (length ps) g
 
 pub placing-none : (ps : List ℕ) (items : List Item) (g : Placed) → ((k : ℕ) → signOn g k ≡ None) → Placing ps items items g
 placing-none ps items g n =
-    record { same = refl; signs = λ j l. ap (first (signAt items (getD ps j 0))) (n j) ∙ first-none (signAt items (getD ps j 0)); within = λ k l. n k }
+    record { unfitted = λ q u. refl; signs = λ j l. ap (first (signAt items (getD ps j 0))) (n j) ∙ first-none (signAt items (getD ps j 0)); within = λ k l. n k }
 
 -- one more item, whose plate stands at place i
 module _ (ps : List ℕ) (items rest : List Item) (x : Item) (g h : Placed) (i : ℕ) (climbs : climbing 0 ps ≡ true) (few : length ps ≤ 32) (rises : rising (x .plate) rest ≡ true) (found : placeIn ps (x .plate) ≡ Some i) (given : (k : ℕ) → signOn h k ≡ cond (eqb k i && ltb i 32) (Some (x .sign)) (signOn g k)) where
@@ -60,7 +60,7 @@ module _ (ps : List ℕ) (items rest : List Item) (x : Item) (g h : Placed) (i :
   pub placing-next : Placing ps items (x ∷ rest) g → Placing ps items rest h
   placing-next s =
       record {
-        same = sym (cond-true _ _ _ (ap isSome found)) ∙ s .same;
+        unfitted = λ q u. sym (cond-false _ _ _ (ne-eqb (x .plate) q (λ e. let z : _≡_ {A = ℕ} 0 1 = cc in omega arith))) ∙ s .unfitted q u;
         signs = λ j l.
             ⊎-elim
             (λ e.
@@ -83,28 +83,33 @@ placing-more ps items n g h i c few r l f given s =
     (subst (λ rest. Placing ps items rest g) (drop-more items n blank l) s)
 
 -- the first item left has no place
-pub missing-here : (ps : List ℕ) (items : List Item) (n : ℕ) (g : Placed) → n < length items → placeIn ps (getD items n blank .plate) ≡ None → Placing ps items (drop n items) g → missing ps items ≡ Some (getD items n blank .plate)
-missing-here ps items n g l u s =
-    sym (s .same) ∙ ap (missing ps) (drop-more items n blank l) ∙ cond-false _ _ _ (ap isSome u)
+pub lowest-here : (ps : List ℕ) (items : List Item) (n : ℕ) (g : Placed) → rising 0 items ≡ true → n < length items → placeIn ps (getD items n blank .plate) ≡ None → Placing ps items (drop n items) g → LowestMissing ps items (getD items n blank .plate)
+lowest-here ps items n g r l u s =
+    record {
+      named = ap isSome (sym (left (x .plate) u) ∙ cond-true _ _ _ (eq-eqb (x .plate) (x .plate) refl));
+      unfitted = u;
+      lowest = λ q named v.
+          ⊎-elim
+          (λ lt.
+          absurd (both-ways (names items q)
+          (ap isSome (sym (left q v) ∙ cond-false _ _ _ (ne-eqb (x .plate) q (λ e. omega arith)) ∙ unnamed-below q (x .plate) (drop (n + 1) items) (omega arith) (rw add-one (rest-rises 0 items n blank r l))))
+          named))
+          (λ le. le)
+          (cases-lt q (x .plate));
+    }
+  where
+    x : Item
+    x = getD items n blank
 
--- where nothing is missing, what has no place has no sign
-unplaced : (ps : List ℕ) (items : List Item) (p : ℕ) → missing ps items ≡ None → placeIn ps p ≡ None → signAt items p ≡ None
-unplaced ps [] p m u = refl
-unplaced ps (x ∷ xs) p m u =
-    ⊎-elim
-    (λ t.
-    cond-false _ _ _ (ne-eqb (x .plate) p (λ e. let z : true ≡ false = sym t ∙ ap isSome (ap (placeIn ps) e ∙ u) in let w : _≡_ {A = ℕ} 0 1 = cc in omega arith))
-    ∙ unplaced ps xs p (sym (cond-true _ _ _ t) ∙ m) u)
-    (λ f. absurd (let z : Some (x .plate) ≡ None = sym (cond-false _ _ _ f) ∙ m in let w : _≡_ {A = ℕ} 0 1 = cc in omega arith))
-    (cases-bool (isSome (placeIn ps (x .plate))))
+    left : (q : ℕ) → placeIn ps q ≡ None → signAt (x ∷ drop (n + 1) items) q ≡ signAt items q
+    left q v = ap (λ rest. signAt rest q) (sym (drop-more items n blank l)) ∙ s .unfitted q v
 
-pub placing-all : (ps : List ℕ) (items : List Item) (g : Placed) → climbing 0 ps ≡ true → rising 0 items ≡ true → Placing ps items [] g → (missing ps items ≡ None) × (spell ps g ≡ items) × Within (length ps) g
+pub placing-all : (ps : List ℕ) (items : List Item) (g : Placed) → climbing 0 ps ≡ true → rising 0 items ≡ true → Placing ps items [] g → (spell ps g ≡ items) × Within (length ps) g
 placing-all ps items g c r s = (
-  sym (s .same),
   same-signs 0 (spell ps g) items (spelled-rises ps g c) r (λ p.
       ⊎-elim
       (λ f. ap (signAt (spell ps g)) (sym (f .2)) ∙ spelled-sign ps g (f .0) c (f .1) ∙ s .signs (f .0) (f .1) ∙ ap (signAt items) (f .2))
-      (λ n. spelled-none ps g p n ∙ sym (unplaced ps items p (sym (s .same)) (place-none ps p n)))
+      (λ n. spelled-none ps g p n ∙ s .unfitted p (place-none ps p n))
       (place-cases ps p)),
   s .within,
 )

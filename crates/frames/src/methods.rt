@@ -4,17 +4,16 @@ ghost use mathlib.Core.Bool.{cond};
 ghost use mathlib.Core.List.{[], _∷_, _++_};
 ghost use Rattle.std.specs.Options.{mapped};
 ghost use Rattle.std.specs.Results.{isOk};
+ghost use Rattle.std.specs.declared.option.Option.the-variants.{None};
 ghost use Rattle.groups.specs.Groups.{itemsOf};
 ghost use Rattle.groups.specs.Items.{CombinesTo};
 ghost use Rattle.frames.specs.Fitted.{fitted, placeIn, fitRefusal, refusedBy, PlacesTo};
 ghost use Rattle.placed.specs.Spelling.{spell};
+use super::places;
 use super::plates::Plates;
 use faults::Fault;
 use faults::Place;
-use faults::Refusal;
 use groups::group::Group;
-use groups::items::Item;
-use groups::methods::HIGHEST_PLATE;
 use placed::Placed;
 
 // The most levers of a frame.
@@ -44,69 +43,49 @@ impl Plates {
         ensures answer { λ r. ⌜ r ≡ refusedBy (fitRefusal (fitted (now (self .entry))) plate) ⌝ }
         ensures after { λ r. ⌜ fitted (now (self .exit)) ≡ cond (isOk r) (fitted (now (self .entry)) ++ (plate ∷ [])) (fitted (now (self .entry))) ⌝ }
     {
-        if plate == 0 || plate > HIGHEST_PLATE {
-            return Err(Refusal::Number.at(Place::Nowhere));
+        match places::refusal(self.all(), plate) {
+            Some(refusal) => Err(refusal.at(Place::Nowhere)),
+            None => {
+                self.push(plate);
+                Ok(())
+            }
         }
-        let count = self.count;
-        if count > 0 && self.plates[count - 1] >= plate {
-            return Err(Refusal::NotAbove.at(Place::Nowhere));
-        }
-        if count >= MOST_LEVERS {
-            return Err(Refusal::FrameFull.at(Place::Nowhere));
-        }
-        self.plates[count] = plate;
-        self.count = count + 1;
-        Ok(())
     }
 
     // The place of a plate, counted from 0, if it is fitted.
     pub fn find(&self, plate: u32) -> Option<usize>
         ensures { λ r. ⌜ r ≡ placeIn (fitted (now (self .entry))) plate ⌝ }
     {
-        for (place, fitted) in self.all().iter().enumerate() {
-            if *fitted == plate {
-                return Some(place);
-            }
-        }
-        None
+        places::find(self.all(), plate)
     }
 
     // Takes a spelled group into the frame. Refused, with the plate: the lowest plate that is not fitted.
     pub fn place(&self, group: &Group) -> Result<Placed, Fault>
         ensures { λ r. ⌜ PlacesTo (fitted (now (self .entry))) (itemsOf (now (group .entry))) r ⌝ }
     {
-        let mut placed = Placed::empty();
-        for item in group.items() {
-            match self.find(item.plate) {
-                Some(place) => placed = placed.with(place, item.sign),
-                None => {
-                    let fault = Refusal::NotFitted.at(Place::Plate(item.plate));
-                    return Err(fault);
-                }
-            }
-        }
-        Ok(placed)
+        places::place(self.all(), group.items())
     }
 
     // Spells a group by the plates of the frame.
     pub fn spell(&self, placed: Placed) -> Group
         ensures { λ r. ⌜ itemsOf r ≡ spell (fitted (now (self .entry))) placed ⌝ }
     {
-        let mut group = Group::new();
-        for (place, plate) in self.all().iter().enumerate() {
-            if let Some(sign) = placed.sign(place) {
-                let plate = *plate;
-                let _ = group.insert(Item { plate, sign });
-            }
-        }
-        group
+        places::spell(self.all(), placed)
     }
 
     // The combination of two groups on a plate: nothing unless the first has the plate with + and the second with -.
     pub fn combine(&self, a: Placed, b: Placed, plate: u32) -> Option<Placed>
         ensures { λ r. ⌜ CombinesTo plate (spell (fitted (now (self .entry))) a) (spell (fitted (now (self .entry))) b) (mapped (spell (fitted (now (self .entry)))) r) ⌝ }
     {
-        let place = self.find(plate)?;
-        a.combine(b, place)
+        places::combine(self.all(), a, b, plate)
+    }
+
+    // Puts a plate that can follow the others behind them.
+    fn push(&mut self, plate: u32)
+        requires { ⌜ fitRefusal (fitted (now self)) plate ≡ None ⌝ }
+        ensures { λ _. ⌜ fitted (now (self .exit)) ≡ fitted (now (self .entry)) ++ (plate ∷ []) ⌝ }
+    {
+        self.plates[self.count] = plate;
+        self.count += 1;
     }
 }

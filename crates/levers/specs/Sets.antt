@@ -4,6 +4,10 @@ use Prim.Native.Nat.{ℕ, _/_, _%_, _^_}
 use lib.Dec.{eqb}
 use Rattle.levers.specs.declared.Levers.{Levers}
 
--- the lever at place k is in the set: digit k of the bits
+-- the binary digit of a number at place k is 1
+abbrev pub digit : ℕ → ℕ → Bool
+digit n k = eqb (n / 2 ^ k % 2) 1
+
+-- the lever at place k is in the set
 abbrev pub has : Levers → ℕ → Bool
-has s k = eqb (s .bits / 2 ^ k % 2) 1
+has s k = digit (s .bits) k

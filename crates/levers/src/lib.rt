@@ -6,7 +6,9 @@ ghost use lib.Dec.{eqb, ltb};
 ghost use Rattle.std.specs.Orderings.{Decides};
 ghost use Rattle.levers.specs.Sets.{has};
 
-// A set of places from 0 to 31: bit k stands for place k.
+mod digits;
+
+// A set of places from 0 to 31: digit k of the bits stands for place k.
 #[derive(Clone, Copy, PartialEq, Eq)]
 pub struct Levers {
     bits: u32,
@@ -24,19 +26,15 @@ impl Levers {
     pub fn has(self, place: usize) -> bool
         ensures { λ r. ⌜ r ≡ has self place ⌝ }
     {
-        place < 32 && (self.bits >> place) & 1 == 1
+        digits::digit(self.bits, place)
     }
 
     // The set with a place below 32 taken in.
     pub fn with(self, place: usize) -> Levers
         ensures { λ r. ⌜ ((k : ℕ) → has r k ≡ (has self k || (eqb k place && ltb place 32))) ⌝ }
     {
-        if place < 32 {
-            Levers {
-                bits: self.bits | 1 << place,
-            }
-        } else {
-            self
+        Levers {
+            bits: digits::with_digit(self.bits, place),
         }
     }
 
@@ -44,12 +42,8 @@ impl Levers {
     pub fn without(self, place: usize) -> Levers
         ensures { λ r. ⌜ ((k : ℕ) → has r k ≡ (has self k && not (eqb k place))) ⌝ }
     {
-        if self.has(place) {
-            Levers {
-                bits: self.bits ^ 1 << place,
-            }
-        } else {
-            self
+        Levers {
+            bits: digits::without_digit(self.bits, place),
         }
     }
 
@@ -57,14 +51,15 @@ impl Levers {
     pub fn union(self, other: Levers) -> Levers
         ensures { λ r. ⌜ ((k : ℕ) → has r k ≡ (has self k || has other k)) ⌝ }
     {
-        let bits = self.bits | other.bits;
-        Levers { bits }
+        Levers {
+            bits: digits::either(self.bits, other.bits),
+        }
     }
 
     // Whether each place of this set is in the other.
     pub fn within(self, other: Levers) -> bool
         ensures { λ r. ⌜ Decides r ((k : ℕ) → has self k ≡ true → has other k ≡ true) ⌝ }
     {
-        self.bits & other.bits == self.bits
+        digits::inside(self.bits, other.bits)
     }
 }

@@ -7,10 +7,11 @@ use lib.Dec.{eqb, ltb}
 use Rattle.std.specs.Orderings.{Decides}
 use Rattle.std.specs.declared.option.Option.{Option}
 use Rattle.std.specs.declared.option.Option.the-variants.{Some, None}
-use Rattle.std.proofs.shelf.Tests.{eqb-true, ltb-false, false≢true}
+use Rattle.std.proofs.shelf.Tests.{false≢true}
+use Rattle.std.proofs.shelf.Ways.{tells}
 use Rattle.groups.specs.declared.items.Sign.{Sign}
-use Rattle.groups.specs.declared.items.Sign.the-variants.{Plus, Minus, Star}
 use Rattle.groups.specs.Items.{sits, joint}
+use Rattle.levers.specs.declared.Levers.{Levers}
 use Rattle.levers.specs.Sets.{has}
 use Rattle.levers.proofs.Members.{same-sets, none-high}
 use Rattle.placed.specs.declared.Placed.{Placed}
@@ -39,16 +40,10 @@ joint-ends u d v e t = grind arith
 pub same-ends : (u d v e : Bool) → signOf u d ≡ signOf v e → (u ≡ v) × (d ≡ e)
 same-ends u d v e s = (grind arith, grind arith)
 
--- the ends with those of one lever, of which t tells, set anew; l tells that there is such a lever
-module _ (u d t l : Bool) (high : t ≡ true → l ≡ false → (u ≡ false) × (d ≡ false)) where
-  ends-plus : signOf ((u && not t) || (t && l)) (d && not t) ≡ cond (t && l) (Some Plus) (signOf u d)
-  ends-plus = grind arith
-
-  ends-minus : signOf (u && not t) ((d && not t) || (t && l)) ≡ cond (t && l) (Some Minus) (signOf u d)
-  ends-minus = grind arith
-
-  ends-star : signOf ((u && not t) || (t && l)) ((d && not t) || (t && l)) ≡ cond (t && l) (Some Star) (signOf u d)
-  ends-star = grind arith
+-- the ends with those of one lever, of which t tells, set anew
+pub ends-set : (t a b u d : Bool) → signOf (cond t a u) (cond t b d) ≡ cond t (signOf a b) (signOf u d)
+ends-set true a b u d = refl
+ends-set false a b u d = refl
 
 -- groups that give each place the same sign are the same
 pub same-groups : (g h : Placed) → ((k : ℕ) → signOn g k ≡ signOn h k) → g ≡ h
@@ -67,20 +62,6 @@ equal-groups true g h e =
 equal-groups false g h e =
     ((λ t. absurd (false≢true t)), (λ q. absurd (e (λ d. false≢true (d .1 (ap (λ x. x .up .bits) q))) (λ d. false≢true (d .1 (ap (λ x. x .down .bits) q))))))
 
--- the sign of each place with the one at p given
-module _ (g : Placed) (p k : ℕ) (fits-up : g .up .bits < 2 ^ 32) (fits-down : g .down .bits < 2 ^ 32) where
-  -- no lever stands from place 32 on
-  high : eqb k p ≡ true → ltb p 32 ≡ false → (has (g .up) k ≡ false) × (has (g .down) k ≡ false)
-  high e l =
-      let q = eqb-true k p e in
-      let m = ltb-false p 32 l in
-      (none-high (g .up) k fits-up (omega arith), none-high (g .down) k fits-down (omega arith))
-
-  pub with-plus : signOf ((has (g .up) k && not (eqb k p)) || (eqb k p && ltb p 32)) (has (g .down) k && not (eqb k p)) ≡ cond (eqb k p && ltb p 32) (Some Plus) (signOn g k)
-  with-plus = ends-plus (has (g .up) k) (has (g .down) k) (eqb k p) (ltb p 32) high
-
-  pub with-minus : signOf (has (g .up) k && not (eqb k p)) ((has (g .down) k && not (eqb k p)) || (eqb k p && ltb p 32)) ≡ cond (eqb k p && ltb p 32) (Some Minus) (signOn g k)
-  with-minus = ends-minus (has (g .up) k) (has (g .down) k) (eqb k p) (ltb p 32) high
-
-  pub with-star : signOf ((has (g .up) k && not (eqb k p)) || (eqb k p && ltb p 32)) ((has (g .down) k && not (eqb k p)) || (eqb k p && ltb p 32)) ≡ cond (eqb k p && ltb p 32) (Some Star) (signOn g k)
-  with-star = ends-star (has (g .up) k) (has (g .down) k) (eqb k p) (ltb p 32) high
+-- a place from 32 on is in no set, so taking it out is taking out none
+pub taken-out : (s : Levers) (p k : ℕ) → s .bits < 2 ^ 32 → (has s k && not (eqb k p)) ≡ cond (eqb k p && ltb p 32) false (has s k)
+taken-out s p k h = grind (arith, tells, none-high s k h)

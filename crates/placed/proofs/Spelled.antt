@@ -1,6 +1,6 @@
 -- What the items that a group spells say of each plate. Assumes nothing.
 use mathlib.Core.Path.{_≡_, refl, sym, ap, _∙_}
-use mathlib.Core.Bool.{true, cond, _&&_}
+use mathlib.Core.Bool.{Bool, true, cond, _&&_}
 use mathlib.Core.List.{List, [], _∷_, _++_}
 use mathlib.Core.Logic.{⊎-elim}
 use Prim.Native.Nat.{ℕ, zero, suc, _+_, _<_, _≤_}
@@ -133,12 +133,19 @@ covers-ends ps g h r w = (
         (λ l. ap (λ o. sitsIf o (signOn h k)) (w k l))
         (cases-lt k (length ps))
 
+-- the sign of the plate at a place is that of the place
+pub opposed-over : (ps : List ℕ) (a b : Placed) (i : ℕ) (r : Bool) → climbing 0 ps ≡ true → i < length ps → Decides r ((signOn a i ≡ Some Plus) × (signOn b i ≡ Some Minus)) → Decides r ((signAt (spell ps a) (getD ps i 0) ≡ Some Plus) × (signAt (spell ps b) (getD ps i 0) ≡ Some Minus))
+opposed-over ps a b i r c l d =
+    let p = spelled-sign ps a i c l in
+    let m = spelled-sign ps b i c l in
+    ((λ t. (p ∙ d .0 t .0, m ∙ d .0 t .1)), (λ s. d .1 (sym p ∙ s .0, sym m ∙ s .1)))
+
 -- the combination on the plate at a place
-pub combined : (ps : List ℕ) (a b c : Placed) (i : ℕ) → climbing 0 ps ≡ true → i < length ps → signOn a i ≡ Some Plus → signOn b i ≡ Some Minus → ((k : ℕ) → signOn c k ≡ cond (eqb k i) None (joint (signOn a k) (signOn b k))) → Combination (getD ps i 0) (spell ps a) (spell ps b) (spell ps c)
-combined ps a b c i r l p m s =
+pub joined-over : (ps : List ℕ) (a b c : Placed) (i : ℕ) → climbing 0 ps ≡ true → i < length ps → ((k : ℕ) → signOn c k ≡ cond (eqb k i) None (joint (signOn a k) (signOn b k))) → signAt (spell ps a) (getD ps i 0) ≡ Some Plus → signAt (spell ps b) (getD ps i 0) ≡ Some Minus → Combination (getD ps i 0) (spell ps a) (spell ps b) (spell ps c)
+joined-over ps a b c i r l s plus minus =
     record {
-      plus = spelled-sign ps a i r l ∙ p;
-      minus = spelled-sign ps b i r l ∙ m;
+      plus = plus;
+      minus = minus;
       spelled = spelled-rises ps c r;
       dropped = spelled-sign ps c i r l ∙ s i ∙ cond-true _ _ _ (eq-eqb i i refl);
       others = λ q ne.

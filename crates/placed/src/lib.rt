@@ -1,20 +1,16 @@
 // Groups to compute with: two sets of levers by their places in a frame, one for each end of a lever.
 // specs/Spelling.antt says what such a group spells; covering, equality and combining on the sets are those of the
-// spelled items (groups/specs/Items.antt).
+// spelled items (groups/specs/Items.antt), which specs/Laws.antt states over any frame.
 ghost use mathlib.Core.Path.{_≡_};
-ghost use mathlib.Core.Bool.{true, cond, _&&_};
-ghost use mathlib.Core.List.{List};
-ghost use Prim.Native.Nat.{ℕ, _<_};
+ghost use mathlib.Core.Bool.{cond, _&&_};
+ghost use Prim.Native.Nat.{ℕ};
 ghost use lib.Dec.{eqb, ltb};
-ghost use lib.ListN.{length, getD};
-ghost use Rattle.std.specs.Options.{mapped};
 ghost use Rattle.std.specs.Orderings.{Decides};
 ghost use Rattle.std.specs.declared.option.Option.the-variants.{Some, None};
-ghost use Rattle.groups.specs.Items.{covers, CombinesTo};
 ghost use Rattle.groups.specs.declared.items.Sign.the-variants.{Plus, Minus};
-ghost use Rattle.placed.specs.Rises.{climbing};
-ghost use Rattle.placed.specs.Signs.{signOn, Within};
-ghost use Rattle.placed.specs.Spelling.{spell};
+ghost use Rattle.levers.specs.Sets.{has};
+ghost use Rattle.placed.specs.Laws.{CoversOver, SameOver, CombinesOver, OpposesOver, JoinsOver};
+ghost use Rattle.placed.specs.Signs.{signOf, signOn};
 use groups::items::Sign;
 use levers::Levers;
 use levers::LeversPartialEq;
@@ -53,55 +49,95 @@ impl Placed {
     pub fn with(self, place: usize, sign: Sign) -> Placed
         ensures { λ r. ⌜ ((k : ℕ) → signOn r k ≡ cond (eqb k place && ltb place 32) (Some sign) (signOn self k)) ⌝ }
     {
-        let up = self.up.without(place);
-        let down = self.down.without(place);
         match sign {
-            Sign::Plus => Placed {
-                up: up.with(place),
-                down,
-            },
-            Sign::Minus => Placed {
-                up,
-                down: down.with(place),
-            },
-            Sign::Star => Placed {
-                up: up.with(place),
-                down: down.with(place),
-            },
+            Sign::Plus => self.with_ends(place, true, false),
+            Sign::Minus => self.with_ends(place, false, true),
+            Sign::Star => self.with_ends(place, true, true),
         }
     }
 
     // Whether this group covers another: over any frame, whether what it spells covers what the other spells.
     pub fn covers(self, other: Placed) -> bool
-        ensures { λ r. ⌜ ((ps : List ℕ) → climbing 0 ps ≡ true → Within (length ps) self → r ≡ covers (spell ps self) (spell ps other)) ⌝ }
+        ensures { λ r. ⌜ CoversOver self other r ⌝ }
     {
-        self.up.within(other.up) && self.down.within(other.down)
+        self.ends_within(other)
     }
 
     // Whether two groups are the same: over any frame, whether they spell the same items.
     pub fn same(self, other: Placed) -> bool
-        ensures { λ r. ⌜ ((ps : List ℕ) → climbing 0 ps ≡ true → Within (length ps) self → Within (length ps) other → Decides r (spell ps self ≡ spell ps other)) ⌝ }
+        ensures { λ r. ⌜ SameOver self other r ⌝ }
     {
-        self == other
+        self.ends_agree(other)
     }
 
     // The combination on the lever at a place: nothing unless this group has + there and the other -. Over any frame it
     // spells the combination of the two on that lever's plate.
     pub fn combine(self, other: Placed, place: usize) -> Option<Placed>
-        ensures { λ r. ⌜ ((ps : List ℕ) → climbing 0 ps ≡ true → place < length ps → CombinesTo (getD ps place 0) (spell ps self) (spell ps other) (mapped (spell ps) r)) ⌝ }
+        ensures { λ r. ⌜ CombinesOver self other place r ⌝ }
     {
-        if !self.opposes(other, place) {
-            return None;
+        if self.opposes(other, place) {
+            Some(self.joined_without(other, place))
+        } else {
+            None
         }
-        let up = self.up.union(other.up).without(place);
-        let down = self.down.union(other.down).without(place);
-        Some(Placed { up, down })
+    }
+
+    // The group with the two ends of the lever at a place below 32 set: whether it has the upper one, and the lower.
+    fn with_ends(self, place: usize, up: bool, down: bool) -> Placed
+        ensures { λ r. ⌜ ((k : ℕ) → signOn r k ≡ cond (eqb k place && ltb place 32) (signOf up down) (signOn self k)) ⌝ }
+    {
+        Placed {
+            up: with_end(self.up, place, up),
+            down: with_end(self.down, place, down),
+        }
+    }
+
+    // Whether each end that this group has is one of the other's.
+    fn ends_within(self, other: Placed) -> bool
+        ensures { λ r. ⌜ CoversOver self other r ⌝ }
+    {
+        self.up.within(other.up) && self.down.within(other.down)
+    }
+
+    // Whether both groups have the same ends.
+    fn ends_agree(self, other: Placed) -> bool
+        ensures { λ r. ⌜ SameOver self other r ⌝ }
+    {
+        self == other
     }
 
     // Whether this group has + on the lever at a place and the other -.
     fn opposes(self, other: Placed, place: usize) -> bool
-        ensures { λ r. ⌜ Decides r ((signOn self place ≡ Some Plus) × (signOn other place ≡ Some Minus)) ⌝ }
+        ensures { λ r. ⌜ OpposesOver self other place r ⌝ }
     {
-        self.up.has(place) && !self.down.has(place) && !other.up.has(place) && other.down.has(place)
+        opposed(self.sign(place), other.sign(place))
     }
+
+    // The ends of both groups, but for those of the lever at a place.
+    fn joined_without(self, other: Placed, place: usize) -> Placed
+        ensures { λ r. ⌜ JoinsOver self other place r ⌝ }
+    {
+        Placed {
+            up: self.up.union(other.up).without(place),
+            down: self.down.union(other.down).without(place),
+        }
+    }
+}
+
+// The levers with the one at a place below 32 taken in or out.
+fn with_end(levers: Levers, place: usize, taken: bool) -> Levers
+    ensures { λ r. ⌜ ((k : ℕ) → has r k ≡ cond (eqb k place && ltb place 32) taken (has levers k)) ⌝ }
+{
+    if taken {
+        levers.with(place)
+    } else {
+        levers.without(place)
+    }
+}
+
+// Whether the first sign is + and the second -.
+fn opposed(a: Option<Sign>, b: Option<Sign>) -> bool
+    ensures { λ r. ⌜ Decides r ((a ≡ Some Plus) × (b ≡ Some Minus)) ⌝ }
+{
+    matches!((a, b), (Some(Sign::Plus), Some(Sign::Minus)))
 }

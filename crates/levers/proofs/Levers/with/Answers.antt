@@ -1,5 +1,0 @@
-use Rattle.levers.proofs.Members.{in-with}
-use Rattle.levers.proofs.Levers.with.Needs as need
-
-pub returns-then-place-lt32 : need.returns-then-place-lt32
-returns-then-place-lt32 c k = in-with (c .args .self .bits) (c .args .place) k (c .if-place-lt32 .taken)

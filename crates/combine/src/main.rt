@@ -46,7 +46,9 @@ struct Lines<'a> {
 fn main(rt: LibcRuntime) -> io::Result<()> {
     let heap = rt.alloc();
     let mut input = Vec::new(heap);
-    rt.stdin().take(MOST_INPUT as u64 + 1).read_to_end(&mut input)?;
+    rt.stdin()
+        .take(MOST_INPUT as u64 + 1)
+        .read_to_end(&mut input)?;
     let mut out = BufWriter::new(rt.stdout());
     report(heap, input.as_slice(), &mut out)?;
     out.flush()
@@ -70,7 +72,10 @@ fn report<W: Write>(heap: Global, input: &[u8], out: &mut W) -> io::Result<()> {
     let combinations = write_combinations(&plates, groups.as_slice(), out)?;
     let read = groups.len();
     let refused = lines.refused;
-    writeln!(out, "{read} read, {refused} refused, {combinations} combinations")
+    writeln!(
+        out,
+        "{read} read, {refused} refused, {combinations} combinations"
+    )
 }
 
 // Reads every line, and answers each.
@@ -92,7 +97,11 @@ fn read_lines<'a, W: Write>(heap: Global, input: &'a [u8], out: &mut W) -> io::R
             None => refused = refused.saturating_add(1),
         }
     }
-    Ok(Lines { entries, plates, refused })
+    Ok(Lines {
+        entries,
+        plates,
+        refused,
+    })
 }
 
 // The first line of a text without its line feed, and what stands behind it.
@@ -155,14 +164,21 @@ fn place_all(heap: Global, plates: &Plates, entries: &[Entry]) -> io::Result<Vec
     let mut groups = Vec::new(heap);
     for entry in entries {
         if let Ok(placed) = read_placed(plates, entry.text, 0) {
-            groups.push(Numbered { number: entry.number, placed })?;
+            groups.push(Numbered {
+                number: entry.number,
+                placed,
+            })?;
         }
     }
     Ok(groups)
 }
 
 // Writes the combinations of each two groups, and answers how many there are.
-fn write_combinations<W: Write>(plates: &Plates, groups: &[Numbered], out: &mut W) -> io::Result<u64> {
+fn write_combinations<W: Write>(
+    plates: &Plates,
+    groups: &[Numbered],
+    out: &mut W,
+) -> io::Result<u64> {
     let mut count: u64 = 0;
     for (i, first) in groups.iter().enumerate() {
         for second in groups.iter().skip(i + 1) {
@@ -173,7 +189,12 @@ fn write_combinations<W: Write>(plates: &Plates, groups: &[Numbered], out: &mut 
 }
 
 // Writes the combinations of two groups, by rising plates, and answers how many there are.
-fn write_pair<W: Write>(plates: &Plates, first: Numbered, second: Numbered, out: &mut W) -> io::Result<u64> {
+fn write_pair<W: Write>(
+    plates: &Plates,
+    first: Numbered,
+    second: Numbered,
+    out: &mut W,
+) -> io::Result<u64> {
     let mut count: u64 = 0;
     for (place, plate) in plates.all().iter().enumerate() {
         if let Some(placed) = on_place(first.placed, second.placed, place) {
@@ -193,7 +214,12 @@ fn on_place(a: Placed, b: Placed, place: usize) -> Option<Placed> {
 }
 
 // Writes one combination, with the numbers of the two lines and the plate on which they are combined.
-fn write_combination<W: Write>(plates: &Plates, on: (u32, u32, u32), placed: Placed, out: &mut W) -> io::Result<()> {
+fn write_combination<W: Write>(
+    plates: &Plates,
+    on: (u32, u32, u32),
+    placed: Placed,
+    out: &mut W,
+) -> io::Result<()> {
     let (first, second, plate) = on;
     write!(out, "{first} {second} on {plate} ")?;
     let mut buffer = [0; LINE];
@@ -237,7 +263,9 @@ mod tests {
         check(last_line(heap, b"")?.as_slice() == b"nothing to read\n")?;
         check(last_line(heap, b"\xff")?.as_slice() == b"0 read, 1 refused, 0 combinations\n")?;
         let full = lines_up_to(heap, 32)?;
-        check(last_line(heap, full.as_slice())?.as_slice() == b"32 read, 0 refused, 0 combinations\n")?;
+        check(
+            last_line(heap, full.as_slice())?.as_slice() == b"32 read, 0 refused, 0 combinations\n",
+        )?;
         let over = lines_up_to(heap, 33)?;
         check(last_line(heap, over.as_slice())?.as_slice() == b"more than 32 different plates\n")
     }
@@ -246,7 +274,10 @@ mod tests {
     fn longest_input(rt: LibcRuntime) -> Result<(), Fail> {
         let heap = rt.alloc();
         let mut long = vec![in heap; b'\n'; 65_536]?;
-        check(last_line(heap, long.as_slice())?.as_slice() == b"0 read, 65536 refused, 0 combinations\n")?;
+        check(
+            last_line(heap, long.as_slice())?.as_slice()
+                == b"0 read, 65536 refused, 0 combinations\n",
+        )?;
         long.push(b'\n')?;
         check(last_line(heap, long.as_slice())?.as_slice() == b"too long\n")
     }

@@ -5,7 +5,7 @@ ghost use Rattle.faults.specs.declared.SheetFault.the-variants as sheet;
 ghost use Rattle.faults.specs.declared.JournalFault.the-variants as journal;
 
 // What is refused. `number` gives the number that people know it by.
-#[derive(Clone, Copy, PartialEq, Eq, Debug)]
+#[derive(Clone, Copy, PartialEq, Eq)]
 pub enum Refusal {
     // a journal line that begins with none of the journal's words
     Word,
@@ -42,7 +42,7 @@ pub enum Refusal {
 }
 
 // The layer that refuses.
-#[derive(Clone, Copy, PartialEq, Eq, Debug)]
+#[derive(Clone, Copy, PartialEq, Eq)]
 pub enum Layer {
     Text,
     Frame,
@@ -51,7 +51,7 @@ pub enum Layer {
 }
 
 // Where the fault is: nowhere in particular, at a byte counted from 0, or at a plate.
-#[derive(Clone, Copy, PartialEq, Eq, Debug)]
+#[derive(Clone, Copy, PartialEq, Eq)]
 pub enum Place {
     Nowhere,
     Byte(usize),
@@ -59,7 +59,7 @@ pub enum Place {
 }
 
 // A fault: the refusal's number, the layer that refuses, and the place.
-#[derive(Clone, Copy, PartialEq, Eq, Debug)]
+#[derive(Clone, Copy, PartialEq, Eq)]
 pub struct Fault {
     pub number: u8,
     pub layer: Layer,
@@ -67,20 +67,20 @@ pub struct Fault {
 }
 
 // A fault found while reading a text.
-#[derive(Clone, Copy, PartialEq, Eq, Debug)]
+#[derive(Clone, Copy, PartialEq, Eq)]
 pub struct TextFault {
     pub fault: Fault,
 }
 
 // A fault of a call on the sheet: a text's fault, whole, or one of the call's own.
-#[derive(Clone, Copy, PartialEq, Eq, Debug)]
+#[derive(Clone, Copy, PartialEq, Eq)]
 pub enum SheetFault {
     Reading(TextFault),
     Own(Fault),
 }
 
 // A fault of the journal: a text's or a sheet's fault, whole, or one of the journal's own.
-#[derive(Clone, Copy, PartialEq, Eq, Debug)]
+#[derive(Clone, Copy, PartialEq, Eq)]
 pub enum JournalFault {
     Reading(TextFault),
     Refused(SheetFault),
@@ -117,7 +117,11 @@ impl Refusal {
         ensures { λ r. ⌜ r ≡ faultOf self place ⌝ }
     {
         let number = self.number();
-        Fault { number, layer: layer_of(number), place }
+        Fault {
+            number,
+            layer: layer_of(number),
+            place,
+        }
     }
 
     // The fault of this refusal at a byte of a text.

@@ -90,14 +90,14 @@ sign-missing p low (x ∷ xs) d zero r e h =
     ⊎-elim
     (λ lt. absurd (omega (arith, place-more p x xs lt)))
     (λ le.
-        cond-false _ _ _ (ne-eqb (x .plate) p (h (omega arith)))
-        ∙ unnamed-below p (x .plate) xs le (rising-step low x xs r .rest))
+    cond-false _ _ _ (ne-eqb (x .plate) p (h (omega arith)))
+    ∙ unnamed-below p (x .plate) xs le (rising-step low x xs r .rest))
     (cases-lt (x .plate) p)
 sign-missing p low (x ∷ xs) d (suc n) r e h =
     ⊎-elim
     (λ lt.
-        cond-false _ _ _ (ne-eqb (x .plate) p (λ q. omega arith))
-        ∙ sign-missing p (x .plate) xs d n (rising-step low x xs r .rest) (omega (arith, place-more p x xs lt)) (λ k q. h (omega arith) q))
+    cond-false _ _ _ (ne-eqb (x .plate) p (λ q. omega arith))
+    ∙ sign-missing p (x .plate) xs d n (rising-step low x xs r .rest) (omega (arith, place-more p x xs lt)) (λ k q. h (omega arith) q))
     (λ le. absurd (omega (arith, place-here p x xs le)))
     (cases-lt (x .plate) p)
 
@@ -113,8 +113,8 @@ insert-at x (i ∷ xs) zero e u =
 insert-at x (i ∷ xs) (suc n) e u =
     ⊎-elim
     (λ lt.
-        cond-false _ _ _ (le-ltb (x .plate) (i .plate) (omega arith))
-        ∙ ap (λ l. i ∷ l) (insert-at x xs n (omega (arith, place-more (x .plate) i xs lt)) (unnamed-rest x i xs u (λ q. omega arith))))
+    cond-false _ _ _ (le-ltb (x .plate) (i .plate) (omega arith))
+    ∙ ap (λ l. i ∷ l) (insert-at x xs n (omega (arith, place-more (x .plate) i xs lt)) (unnamed-rest x i xs u (λ q. omega arith))))
     (λ le. absurd (omega (arith, place-here (x .plate) i xs le)))
     (cases-lt (i .plate) (x .plate))
 
@@ -125,12 +125,12 @@ insert-rises x low (i ∷ xs) l h u r =
     let s = rising-step low i xs r in
     ⊎-elim
     (λ lt.
-        ap (rising low) (cond-false (ltb (x .plate) (i .plate)) (x ∷ i ∷ xs) (i ∷ insert x xs) (le-ltb (x .plate) (i .plate) (omega arith)))
-        ∙ rising-more low i (insert x xs) (s .above) (s .upto) (insert-rises x (i .plate) xs lt h (unnamed-rest x i xs u (λ q. omega arith)) (s .rest)))
+    ap (rising low) (cond-false (ltb (x .plate) (i .plate)) (x ∷ i ∷ xs) (i ∷ insert x xs) (le-ltb (x .plate) (i .plate) (omega arith)))
+    ∙ rising-more low i (insert x xs) (s .above) (s .upto) (insert-rises x (i .plate) xs lt h (unnamed-rest x i xs u (λ q. omega arith)) (s .rest)))
     (λ le.
-        let lt = apart x i xs u le in
-        ap (rising low) (cond-true (ltb (x .plate) (i .plate)) (x ∷ i ∷ xs) (i ∷ insert x xs) (lt-ltb _ _ lt))
-        ∙ rising-more low x (i ∷ xs) l h (rising-more (x .plate) i xs lt (s .upto) (s .rest)))
+    let lt = apart x i xs u le in
+    ap (rising low) (cond-true (ltb (x .plate) (i .plate)) (x ∷ i ∷ xs) (i ∷ insert x xs) (lt-ltb _ _ lt))
+    ∙ rising-more low x (i ∷ xs) l h (rising-more (x .plate) i xs lt (s .upto) (s .rest)))
     (cases-lt (i .plate) (x .plate))
 
 -- what the items say of each plate with a new one among them
@@ -139,11 +139,11 @@ insert-sign x [] p u = refl
 insert-sign x (i ∷ xs) p u =
     ⊎-elim
     (λ lt.
-        ap (λ l. signAt l p) (cond-false (ltb (x .plate) (i .plate)) (x ∷ i ∷ xs) (i ∷ insert x xs) (le-ltb (x .plate) (i .plate) (omega arith)))
-        ∙ ap (cond (eqb (i .plate) p) (Some (i .sign))) (insert-sign x xs p (unnamed-rest x i xs u (λ q. omega arith)))
-        ∙ conds-swap (eqb (i .plate) p) (eqb (x .plate) p) (Some (i .sign)) (Some (x .sign)) (signAt xs p) (λ a b. omega (arith, eqb-true _ _ a, eqb-true _ _ b)))
+    ap (λ l. signAt l p) (cond-false (ltb (x .plate) (i .plate)) (x ∷ i ∷ xs) (i ∷ insert x xs) (le-ltb (x .plate) (i .plate) (omega arith)))
+    ∙ ap (cond (eqb (i .plate) p) (Some (i .sign))) (insert-sign x xs p (unnamed-rest x i xs u (λ q. omega arith)))
+    ∙ conds-swap (eqb (i .plate) p) (eqb (x .plate) p) (Some (i .sign)) (Some (x .sign)) (signAt xs p) (λ a b. omega (arith, eqb-true _ _ a, eqb-true _ _ b)))
     (λ le.
-        ap (λ l. signAt l p) (cond-true (ltb (x .plate) (i .plate)) (x ∷ i ∷ xs) (i ∷ insert x xs) (lt-ltb _ _ (apart x i xs u le))))
+    ap (λ l. signAt l p) (cond-true (ltb (x .plate) (i .plate)) (x ∷ i ∷ xs) (i ∷ insert x xs) (lt-ltb _ _ (apart x i xs u le))))
     (cases-lt (i .plate) (x .plate))
 
 -- a plate that the search did not find
@@ -202,7 +202,7 @@ same-signs low (x ∷ xs) (y ∷ ys) r s h =
     ⊎-elim
     (λ e. (λ i. first-same x y xs ys e h i ∷ same-signs (x .plate) xs ys (a .rest) (ap (λ p. rising p ys) e ∙ b .rest) (rest-same x y xs ys e (a .rest) (b .rest) h) i))
     (λ d. absurd (⊎-elim
-      (λ lt. unnamed-first x x xs (h (x .plate) ∙ unnamed-below (x .plate) (x .plate) (y ∷ ys) (omega arith) (rising-more (x .plate) y ys lt (b .upto) (b .rest))) refl)
-      (λ lt. unnamed-first y y ys (sym (h (y .plate)) ∙ unnamed-below (y .plate) (y .plate) (x ∷ xs) (omega arith) (rising-more (y .plate) x xs lt (a .upto) (a .rest))) refl)
-      d))
+    (λ lt. unnamed-first x x xs (h (x .plate) ∙ unnamed-below (x .plate) (x .plate) (y ∷ ys) (omega arith) (rising-more (x .plate) y ys lt (b .upto) (b .rest))) refl)
+    (λ lt. unnamed-first y y ys (sym (h (y .plate)) ∙ unnamed-below (y .plate) (y .plate) (x ∷ xs) (omega arith) (rising-more (y .plate) x xs lt (a .upto) (a .rest))) refl)
+    d))
     (cases-order (x .plate) (y .plate))

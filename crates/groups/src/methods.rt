@@ -21,8 +21,14 @@ impl Group {
     pub fn new() -> Group
         ensures { λ r. ⌜ itemsOf r ≡ [] ⌝ }
     {
-        let blank = Item { plate: 0, sign: Sign::Plus };
-        Group { items: [blank; 32], count: 0 }
+        let blank = Item {
+            plate: 0,
+            sign: Sign::Plus,
+        };
+        Group {
+            items: [blank; 32],
+            count: 0,
+        }
     }
 
     // The items in rising plates.
@@ -56,7 +62,10 @@ impl Group {
     fn takes(&self, plate: u32) -> bool
         ensures { λ r. ⌜ r ≡ takes (itemsOf (now (self .entry))) plate ⌝ }
     {
-        plate > 0 && plate <= HIGHEST_PLATE && self.sign_of(plate).is_none() && self.items().len() < MOST_ITEMS
+        plate > 0
+            && plate <= HIGHEST_PLATE
+            && self.sign_of(plate).is_none()
+            && self.items().len() < MOST_ITEMS
     }
 
     // Puts an item that the group can take into its place.

@@ -126,8 +126,8 @@ module _ (room : ℕ) (seen : List Item) (at : ℕ) (text : List ℕ) (full : ro
   read-fault fits _ _ (repeated p n l k) =
       number-fault refusal.Repeated fits
       (go-on (numbered at (plateOf (digitsOf text))) (itemNumber room seen at) p (numbered-ok p n)
-        ∙ cond-false _ _ _ (ne-eqb room 0 (λ e. omega arith))
-        ∙ cond-true _ _ _ k)
+      ∙ cond-false _ _ _ (ne-eqb room 0 (λ e. omega arith))
+      ∙ cond-true _ _ _ k)
   read-fault fits _ _ (no-sign p n h) =
       on-plate room seen at text p (plate-ok p n)
       ∙ stop (signDue (byteAt at (run text)) (symbol (behind text))) _ (textFaultOf refusal.Mark (byteAt at (run text))) (sign-fault (byteAt at (run text)) (behind text) h)
@@ -185,6 +185,7 @@ front seen text few = by (plateOf (digitsOf text)) refl
     number p n (inr l) t e = fault refusal.Ninth 0 (ninth p n (omega arith))
     number p n (inl l) true e = fault refusal.Repeated 0 (repeated p n l e)
     number p n (inl l) false e = front-item seen text p (record { number = n; room = l; fresh = e }) (behind text) refl
+
     by : (o : Option ℕ) → plateOf (digitsOf text) ≡ o → Front seen text
     by None e = fault refusal.Number 0 (no-number (λ p n. none-not-some p (sym e ∙ numeral-plate (digitsOf text) p n)))
     by (Some p) e = number p (plate-numeral (digitsOf text) p (run-digits text) e) (cases-lt (length seen) 8) (names seen p) refl

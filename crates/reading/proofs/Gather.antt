@@ -70,17 +70,17 @@ named-rest i is p h = ap isSome (cond-false _ _ _ (ne-eqb (i .plate) p h))
 pub once-apart : (seen is : List Item) → Once is → ((p : ℕ) → names is p ≡ true → names seen p ≡ false) → Apart seen is
 once-apart seen [] o d = tt
 once-apart seen (i ∷ is) o d =
-    let new = d (i .plate) (named-first i is) in
-    (new,
+    let new = d (i .plate) (named-first i is) in (
+      new,
       once-apart (insert i seen) is (o .1) (λ p h.
-        let ne : i .plate ≡ p → ⊥ = λ e. both-ways (names is p) (ap (names is) (sym e) ∙ o .0) h in
-        names-insert i seen p new ∙ named-rest i seen p ne ∙ d p (named-rest i is p ne ∙ h)))
+          let ne : i .plate ≡ p → ⊥ = λ e. both-ways (names is p) (ap (names is) (sym e) ∙ o .0) h in
+          names-insert i seen p new ∙ named-rest i seen p ne ∙ d p (named-rest i is p ne ∙ h)),
+    )
 
 pub apart-once : (seen is : List Item) → Apart seen is → Once is × ((p : ℕ) → names seen p ≡ true → names is p ≡ false)
 apart-once seen [] a = (tt, λ p h. refl)
 apart-once seen (i ∷ is) a =
-    let r = apart-once (insert i seen) is (a .1) in
-    (
+    let r = apart-once (insert i seen) is (a .1) in (
       (r .1 (i .plate) (names-insert i seen (i .plate) (a .0) ∙ named-first i seen), r .0),
       λ p h.
           let ne : i .plate ≡ p → ⊥ = λ e. both-ways (names seen p) (ap (names seen) (sym e) ∙ a .0) h in
@@ -108,16 +108,16 @@ gather-signs seen (i ∷ is) p a =
     gather-signs (insert i seen) is p (a .1)
     ∙ ap (first-of (signAt is p)) (insert-sign i seen p (unnamed (signAt seen (i .plate)) seen (i .plate) (a .0) refl))
     ∙ ⊎-elim
-      (λ e.
-        let once = apart-once seen (i ∷ is) a .0 .0 in
-        let rest : signAt is p ≡ None = unnamed (signAt is p) is p (ap (names is) (sym e) ∙ once) refl in
-        ap (λ o. first-of o (signAt (i ∷ seen) p)) rest
-        ∙ cond-true _ _ _ (eq-eqb (i .plate) p e)
-        ∙ sym (ap (λ o. first-of o (signAt seen p)) (cond-true _ _ _ (eq-eqb (i .plate) p e))))
-      (λ ne.
-        ap (first-of (signAt is p)) (cond-false _ _ _ (ne-eqb (i .plate) p ne))
-        ∙ sym (ap (λ o. first-of o (signAt seen p)) (cond-false _ _ _ (ne-eqb (i .plate) p ne))))
-      (cases-eq (i .plate) p)
+    (λ e.
+    let once = apart-once seen (i ∷ is) a .0 .0 in
+    let rest : signAt is p ≡ None = unnamed (signAt is p) is p (ap (names is) (sym e) ∙ once) refl in
+    ap (λ o. first-of o (signAt (i ∷ seen) p)) rest
+    ∙ cond-true _ _ _ (eq-eqb (i .plate) p e)
+    ∙ sym (ap (λ o. first-of o (signAt seen p)) (cond-true _ _ _ (eq-eqb (i .plate) p e))))
+    (λ ne.
+    ap (first-of (signAt is p)) (cond-false _ _ _ (ne-eqb (i .plate) p ne))
+    ∙ sym (ap (λ o. first-of o (signAt seen p)) (cond-false _ _ _ (ne-eqb (i .plate) p ne))))
+    (cases-eq (i .plate) p)
 
 pub gather-says : (is : List Item) (p : ℕ) → Apart [] is → signAt (gather [] is) p ≡ signAt is p
 gather-says is p a = gather-signs [] is p a ∙ first-none (signAt is p)

@@ -77,7 +77,7 @@ outcome (suc room) seen at text full fits = by (λ held. outcome room held) (fro
         let r : readItems (suc room) seen at text ≡ readItems room (insert (item p s) seen) (byteAt at (run text + 2)) t = read-more (suc room) seen at text full p s t n e ∙ ap (λ k. readItems k (insert (item p s) seen) (byteAt at (run text + 2)) t) (omega arith) in
         prepend seen at text p s t (readItems (suc room) seen at text) n e
         (subst (Outcome (insert (item p s) seen) (byteAt at (run text + 2)) t) (sym r)
-          (next (insert (item p s) seen) (byteAt at (run text + 2)) t (omega (arith, length-insert (item p s) seen)) (byte-fits at (run text + 2))))
+        (next (insert (item p s) seen) (byteAt at (run text + 2)) t (omega (arith, length-insert (item p s) seen)) (byte-fits at (run text + 2))))
 
 mark-no-digit : (s : Sign) → asciiDigit (markOf s) ≡ false
 mark-no-digit Plus = refl
@@ -101,6 +101,7 @@ read-items none room seen at rest full fits apart few = λ i. readItems (same-ro
   where
     same-room : room ≡ room - 0
     same-room = omega arith
+
     same-place : at ≡ byteAt at 0
     same-place = omega arith
 read-items (more {ds} {text} {p} {its} s n h) room seen at rest full fits apart few =
@@ -112,6 +113,7 @@ read-items (more {ds} {text} {p} {its} s n h) room seen at rest full fits apart 
   where
     rooms : room - 1 - length its ≡ room - length (item p s ∷ its)
     rooms = omega arith
+
     places : byteAt (byteAt at (length ds + 2)) (length text) ≡ byteAt at (length (ds ++ (markOf s ∷ 32 ∷ text)))
     places = place-more at (length ds + 2) (length text) ∙ ap (byteAt at) (omega (arith, length-append ds (markOf s ∷ 32 ∷ text)))
 
@@ -162,7 +164,13 @@ opened start b t e r (spelled front its ds p s items number whole apart few is) 
     let all = its ++ (item p s ∷ []) in
     good (gather [] all)
     (record {
-      front = front; its = its; ds = ds; p = p; s = s; items = items; number = number;
+      front = front;
+      its = its;
+      ds = ds;
+      p = p;
+      s = s;
+      items = items;
+      number = number;
       whole = (λ i. e i ∷ whole i);
       few = omega (arith, few);
       once = once all apart;
@@ -190,8 +198,8 @@ answered start (b ∷ t) fits =
     ⊎-elim
     (λ e. subst (Answered start (b ∷ t)) (sym (bracketed start b t e)) (opened start b t e (readItems 8 [] (byteAt start 1) t) (outcome 8 [] (byteAt start 1) t refl (byte-fits start 1))))
     (λ ne.
-      let none-open : (u : List ℕ) → b ∷ t ≡ 40 ∷ u → ⊥ = λ u e. ne (same-first b 40 t u e) in
-      bad (textFaultOf refusal.Mark (byteAt start 0)) (record { refusal = refusal.Mark; offset = 0; first = no-bracket (b ∷ t) none-open; is = refl }) (no-open start (b ∷ t) fits none-open))
+    let none-open : (u : List ℕ) → b ∷ t ≡ 40 ∷ u → ⊥ = λ u e. ne (same-first b 40 t u e) in
+    bad (textFaultOf refusal.Mark (byteAt start 0)) (record { refusal = refusal.Mark; offset = 0; first = no-bracket (b ∷ t) none-open; is = refl }) (no-open start (b ∷ t) fits none-open))
     (cases-eq b 40)
 
 -- the items of a text's front are read
@@ -214,13 +222,13 @@ spelled-read start text g h =
     ap (readGroup start) (h .whole)
     ∙ fronts-read start (h .front) its last-text (h .items) (parts .0) (omega arith)
     ∙ read-last (8 - length its) (gather [] its) (byteAt start (1 + length (h .front))) last-text (omega arith) (h .p) (h .s)
-      (item-new (h .ds) (h .p) (h .number) (h .s) (41 ∷ []) (gather [] its) (omega arith) (parts .1))
-      (item-behind (h .ds) (h .p) (h .number) (h .s) (41 ∷ []))
+    (item-new (h .ds) (h .p) (h .number) (h .s) (41 ∷ []) (gather [] its) (omega arith) (parts .1))
+    (item-behind (h .ds) (h .p) (h .number) (h .s) (41 ∷ []))
     ∙ ap Ok (sym (gather-push [] its x)
-      ∙ same-signs 0 (gather [] all) g
-        (gather-rises [] all (fit-push its x (items-fit (h .items)) (h .number .low) (h .number .high)) apart refl)
-        (h .rises)
-        (λ q. gather-says all q apart ∙ sym (h .same q)))
+    ∙ same-signs 0 (gather [] all) g
+    (gather-rises [] all (fit-push its x (items-fit (h .items)) (h .number .low) (h .number .high)) apart refl)
+    (h .rises)
+    (λ q. gather-says all q apart ∙ sym (h .same q)))
 
 -- a text with a fault is refused with it
 refused-read : (start : ℕ) (text : List ℕ) (e : Refusal) (n : ℕ) → start < 2 ^ 64 → FirstFault text e n → readGroup start text ≡ Err (textFaultOf e (byteAt start n))
@@ -230,7 +238,7 @@ refused-read start _ _ _ fits (in-items {front} {its} {rest} {e} {n} items few o
     let long = gathered-long its apart in
     fronts-read start front its rest items apart few
     ∙ read-fault (8 - length its) (gather [] its) (byteAt start (1 + length front)) rest (omega arith) (byte-fits start (1 + length front)) e n
-      (fault-like its (gather [] its) rest e n (sym long) (λ p. sym (gathered-names its apart p)) f)
+    (fault-like its (gather [] its) rest e n (sym long) (λ p. sym (gathered-names its apart p)) f)
     ∙ ap (λ a. Err (textFaultOf e a)) (place-more start (1 + length front) n)
 
 -- what is read is right
@@ -245,6 +253,7 @@ right start text fits = record {
     by-group : (g : List Item) → readGroup start text ≡ Ok g → Answered start text (readGroup start text) → Spells text g
     by-group g e (good k h q) = subst (Spells text) (same-ok k g (sym q ∙ e)) h
     by-group g e (bad f h q) = absurd (ok-not-err g f (sym e ∙ q))
+
     by-fault : (f : TextFault) → readGroup start text ≡ Err f → Answered start text (readGroup start text) → Refused start text f
     by-fault f e (good k h q) = absurd (ok-not-err k f (sym q ∙ e))
     by-fault f e (bad k h q) = subst (Refused start text) (same-err {A = List Item} k f (sym q ∙ e)) h

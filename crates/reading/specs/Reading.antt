@@ -22,7 +22,6 @@ use Rattle.reading.specs.Numbers.{run, digitsOf, plateOf}
 use Rattle.reading.specs.Tokens.{symbol, byteAt}
 
 infixl 10 _>>=_
-
 -- a step, and another where it is not refused
 abbrev pub _>>=_ : {A B : Type 0} → Result A TextFault → (A → Result B TextFault) → Result B TextFault
 _>>=_ (Ok x) f = f x
@@ -81,9 +80,9 @@ readItems (suc room) seen at text =
     let at₁ = byteAt at (run text) in
     let text₁ = drop (run text) text in
     plateDue (suc room) seen at (digitsOf text) >>= λ p.
-        signDue at₁ (symbol text₁) >>= λ s.
-            let held = insert (record { plate = p; sign = s }) seen in
-            moreDue (byteAt at₁ 1) (drop 1 text₁) >>= itemsFrom (readItems room held) held (byteAt at₁ 1) (drop 1 text₁)
+    signDue at₁ (symbol text₁) >>= λ s.
+    let held = insert (record { plate = p; sign = s }) seen in
+    moreDue (byteAt at₁ 1) (drop 1 text₁) >>= itemsFrom (readItems room held) held (byteAt at₁ 1) (drop 1 text₁)
 
 -- an opening bracket is due
 abbrev pub openDue : ℕ → Option ℕ → Result (Unit {0}) TextFault

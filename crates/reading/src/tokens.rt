@@ -25,8 +25,14 @@ pub(super) fn next_token(text: &[u8], at: usize) -> Token<'_>
         return Token::End { at };
     }
     match run_of_digits(text) {
-        0 => Token::Mark { mark: &text[0..1], at },
-        n => Token::Number { digits: &text[0..n], at },
+        0 => Token::Mark {
+            mark: &text[0..1],
+            at,
+        },
+        n => Token::Number {
+            digits: &text[0..n],
+            at,
+        },
     }
 }
 

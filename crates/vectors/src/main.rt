@@ -108,7 +108,10 @@ fn count_bytes(rt: &LibcRuntime) -> io::Result<u32> {
             if is_right(&text, fault_of(position, byte)) {
                 count = count.saturating_add(1);
             } else {
-                println!(rt, "byte {byte} in position {position} is not answered as expected")?;
+                println!(
+                    rt,
+                    "byte {byte} in position {position} is not answered as expected"
+                )?;
             }
         }
     }

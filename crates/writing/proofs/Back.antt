@@ -44,7 +44,12 @@ number-of low i is r = let s = rising-step low i is r in let a = s .above in rec
 
 last-apart : (low : ℕ) (i : Item) (is : List Item) → rising low (i ∷ is) ≡ true → LastApart (rowText (i ∷ is)) (i ∷ is)
 last-apart low i [] r = record {
-  front = []; its = []; p = i .plate; s = i .sign; items = none; number = number-of low i [] r;
+  front = [];
+  its = [];
+  p = i .plate;
+  s = i .sign;
+  items = none;
+  number = number-of low i [] r;
   text-is = ap (λ l. l ++ (41 ∷ [])) (append-nil (itemText i)) ∙ append-assoc (decimal (i .plate)) (markOf (i .sign) ∷ []) (41 ∷ []);
   items-are = refl;
 }
@@ -58,10 +63,10 @@ last-apart low i (j ∷ is) r =
       items = more (i .sign) (number-of low i (j ∷ is) r) (rest .items);
       number = rest .number;
       text-is =
-        append-assoc (itemText i) (32 ∷ rowText (j ∷ is)) (41 ∷ [])
-        ∙ append-assoc (decimal (i .plate)) (markOf (i .sign) ∷ []) (32 ∷ (rowText (j ∷ is) ++ (41 ∷ [])))
-        ∙ ap (λ l. decimal (i .plate) ++ (markOf (i .sign) ∷ 32 ∷ l)) (rest .text-is)
-        ∙ sym (append-assoc (decimal (i .plate)) (markOf (i .sign) ∷ 32 ∷ rest .front) (decimal (rest .p) ++ (markOf (rest .s) ∷ 41 ∷ [])));
+          append-assoc (itemText i) (32 ∷ rowText (j ∷ is)) (41 ∷ [])
+          ∙ append-assoc (decimal (i .plate)) (markOf (i .sign) ∷ []) (32 ∷ (rowText (j ∷ is) ++ (41 ∷ [])))
+          ∙ ap (λ l. decimal (i .plate) ++ (markOf (i .sign) ∷ 32 ∷ l)) (rest .text-is)
+          ∙ sym (append-assoc (decimal (i .plate)) (markOf (i .sign) ∷ 32 ∷ rest .front) (decimal (rest .p) ++ (markOf (rest .s) ∷ 41 ∷ [])));
       items-are = ap (λ l. i ∷ l) (rest .items-are);
     }
 
@@ -75,7 +80,13 @@ spells : (i : Item) (is : List Item) → rising 0 (i ∷ is) ≡ true → length
 spells i is r few =
     let a = last-apart 0 i is r in
     record {
-      front = a .front; its = a .its; ds = decimal (a .p); p = a .p; s = a .s; items = a .items; number = a .number;
+      front = a .front;
+      its = a .its;
+      ds = decimal (a .p);
+      p = a .p;
+      s = a .s;
+      items = a .items;
+      number = a .number;
       whole = ap (λ l. 40 ∷ l) (a .text-is);
       few = omega (arith, ap length (a .items-are), length-push (a .its) (item (a .p) (a .s)));
       once = subst Once (sym (a .items-are)) (once 0 (i ∷ is) r);

@@ -38,7 +38,10 @@ impl Line {
     pub fn new() -> Line
         ensures { λ r. ⌜ textOf r ≡ [] ⌝ }
     {
-        Line { bytes: [0; 320], len: 0 }
+        Line {
+            bytes: [0; 320],
+            len: 0,
+        }
     }
 
     // The text.

@@ -11,7 +11,7 @@ returns-then-items-at c =
 pub returns-else-at-items : need.returns-else-at-items
 returns-else-at-items c =
     sym (sign-missing (c .args .plate) 0 (c .args .items .now) blank _ (c .pre) (c .place-of-at .ensures)
-      (λ lt q. elim (c .else-at-items .came) [
-        else-at-items·by·then-at-items·else-items-at w ↦ w .if-items-at .left q
+    (λ lt q. elim (c .else-at-items .came) [
+      | else-at-items·by·then-at-items·else-items-at w ↦ w .if-items-at .left q
       | else-at-items·by·else-at-items w ↦ omega (arith, lt, w .if-at-items .left)
-      ]))
+    ]))

@@ -78,7 +78,7 @@ again t c at text at-is text-is h =
     ∙ (λ i. readItems (c .args .room - 1) (itemsOf (c .insert .last .self)) (byteAt (c .saturating-add-at-2 .ensures i) 1) (drop 1 (c .skip-text-2 .ensures i)))
     ∙ (λ i. readItems (c .args .room - 1) (itemsOf (c .insert .last .self)) (byteAt (byteAt ((c .saturating-add-at .ensures ∙ ap (byteAt (c .args .at)) long) i) 1) 1) (drop 1 (drop 1 ((c .skip-text .ensures ∙ ap (λ n. drop n (c .args .text .now)) long) i))))
     ∙ sym (follows t c
-      ∙ ap (itemsFrom (readItems (c .args .room - 1) (itemsOf (c .insert .last .self))) (itemsOf (c .insert .last .self)) (byteAt (byteAt (c .args .at) (run (c .args .text .now))) 1) (drop 1 (drop (run (c .args .text .now)) (c .args .text .now)))) h)
+    ∙ ap (itemsFrom (readItems (c .args .room - 1) (itemsOf (c .insert .last .self))) (itemsOf (c .insert .last .self)) (byteAt (byteAt (c .args .at) (run (c .args .text .now))) 1) (drop 1 (drop (run (c .args .text .now)) (c .args .text .now)))) h)
 
 pub returns-in-Break-plate : need.returns-in-Break-plate
 returns-in-Break-plate t c =
@@ -93,7 +93,7 @@ returns-in-Break-sign t c =
     let d = need.at·returns-in-Break-sign t c .After-sign-due in
     ap heldBy (p .1) ∙ ap Err (p .2)
     ∙ sym (on-plate (c .args .room) (itemsOf (c .args .group)) (c .args .at) (c .args .text .now) (c .in-Continue-plate .plate) (plate-is t d)
-      ∙ stop (signDue (byteAt (c .args .at) (run (c .args .text .now))) (symbol (drop (run (c .args .text .now)) (c .args .text .now)))) _ _ (sym (sign-due-is t d) ∙ c .in-Break-sign .was tt))
+    ∙ stop (signDue (byteAt (c .args .at) (run (c .args .text .now))) (symbol (drop (run (c .args .text .now)) (c .args .text .now)))) _ _ (sym (sign-due-is t d) ∙ c .in-Break-sign .was tt))
 
 pub returns-in-Break-more : need.returns-in-Break-more
 returns-in-Break-more t c =
@@ -101,7 +101,7 @@ returns-in-Break-more t c =
     let d = need.at·returns-in-Break-more t c .After-more-due in
     ap heldBy (p .1) ∙ ap Err (p .2)
     ∙ sym (on-sign (c .args .room) (itemsOf (c .args .group)) (c .args .at) (c .args .text .now) (c .in-Continue-plate .plate) (c .in-Continue-sign .sign) (plate-is t (need.at·returns-in-Break-more t c .After-sign-due)) (sign-is t d)
-      ∙ stop (moreDue (byteAt (byteAt (c .args .at) (run (c .args .text .now))) 1) (drop 1 (drop (run (c .args .text .now)) (c .args .text .now)))) _ _ (sym (more-due-is t d) ∙ c .in-Break-more .was tt))
+    ∙ stop (moreDue (byteAt (byteAt (c .args .at) (run (c .args .text .now))) 1) (drop 1 (drop (run (c .args .text .now)) (c .args .text .now)))) _ _ (sym (more-due-is t d) ∙ c .in-Break-more .was tt))
 
 pub read-items-requires : need.read-items-requires
 read-items-requires t c κs =

@@ -23,12 +23,12 @@ returns-in-Break-open-due c =
     let p = err-from-errBy (c .from-residual .result) (c .from-residual .ensures .1) in
     told (c .args .at) (c .args .text .now) (heldBy (c .from-residual .result)) (c .fits .at .fits)
     (exit _ (openDue (c .args .at) (symbol (c .args .text .now))) _ (p .0) _ (ap heldBy (p .1)) (p .2)
-      (c .in-Break-open-due .ensures tt ∙ open-at (c .args .at) (c .args .text .now) (c .next-token .result) (c .next-token .ensures)))
+    (c .in-Break-open-due .ensures tt ∙ open-at (c .args .at) (c .args .text .now) (c .next-token .result) (c .next-token .ensures)))
 
 pub returns : need.returns
 returns c =
     told (c .args .at) (c .args .text .now) (heldBy (c .read-items .result)) (c .fits .at .fits)
     (c .read-items .ensures
-      ∙ (λ i. readItems 8 (c .new .ensures i) (c .saturating-add .ensures i) (c .skip .ensures i))
-      ∙ sym (go-on (openDue (c .args .at) (symbol (c .args .text .now))) _ tt
-        (sym (open-at (c .args .at) (c .args .text .now) (c .next-token .result) (c .next-token .ensures)) ∙ sym (c .in-Continue-open-due .ensures tt))))
+    ∙ (λ i. readItems 8 (c .new .ensures i) (c .saturating-add .ensures i) (c .skip .ensures i))
+    ∙ sym (go-on (openDue (c .args .at) (symbol (c .args .text .now))) _ tt
+    (sym (open-at (c .args .at) (c .args .text .now) (c .next-token .result) (c .next-token .ensures)) ∙ sym (c .in-Continue-open-due .ensures tt))))

@@ -27,8 +27,7 @@ returns-then-value-gt-HIGHEST-PLATE c =
 
 pub loop-digit-again : need.loop-digit-again
 loop-digit-again c =
-    let step = value-more (c .loop-digit .value) (c .args .digits .now) (c .loop-digit .digit-index) (c .loop-digit-test .taken) in
-    (
+    let step = value-more (c .loop-digit .value) (c .args .digits .now) (c .loop-digit .digit-index) (c .loop-digit-test .taken) in (
       omega (arith, c .if-value-gt-HIGHEST-PLATE .left),
       ap (λ d. valueFrom (c .loop-digit .value * 10 + d) (drop (c .loop-digit .digit-index + 1) (c .args .digits .now))) (c .from .ensures) ∙ sym step ∙ c .loop-digit .inv .1,
     )

@@ -16,8 +16,8 @@ returns c =
     let few = g .few in
     record {
       value =
-        c .put-group .ensures
-        ∙ ap (λ l. cut (l ++ groupText (itemsOf g))) (c .new-line .ensures)
-        ∙ cut-short (groupText (itemsOf g)) (group-short (itemsOf g) (g .rises) (omega (arith, length-take (g .count) (g .items))));
+          c .put-group .ensures
+          ∙ ap (λ l. cut (l ++ groupText (itemsOf g))) (c .new-line .ensures)
+          ∙ cut-short (groupText (itemsOf g)) (group-short (itemsOf g) (g .rises) (omega (arith, length-take (g .count) (g .items))));
       back = read-back (itemsOf g) (g .rises);
     }

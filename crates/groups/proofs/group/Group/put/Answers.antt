@@ -10,8 +10,7 @@ use Rattle.groups.proofs.group.Group.put.Needs.{After-put-in}
 
 pub put-in-requires : need.put-in-requires
 put-in-requires c κs =
-    let few = taken (itemsOf (c .args .self .now)) (c .args .item .plate) (c .pre) .few in
-    (
+    let few = taken (itemsOf (c .args .self .now)) (c .args .item .plate) (c .pre) .few in (
       omega (arith, place-within (c .args .item .plate) (c .items .result .now), c .place-of-at .ensures, ap length (c .items .ensures), length-take (c .args .self .now .count) (c .args .self .now .items)),
       omega (arith, c .args .self .now .long, c .args .self .now .few, length-take (c .args .self .now .count) (c .args .self .now .items)),
     )
@@ -25,8 +24,7 @@ done c =
 pub ghost-self : need.ghost-self
 ghost-self c =
     let t = taken (itemsOf (c .args .self .now)) (c .args .item .plate) (c .pre) in
-    let few = t .few in
-    (
+    let few = t .few in (
       c .put-in .kept .items ∙ c .args .self .now .long,
       (
         omega (arith, c .args .self .now .long, c .args .self .now .few, length-take (c .args .self .now .count) (c .args .self .now .items)),

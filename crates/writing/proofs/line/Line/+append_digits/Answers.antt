@@ -17,7 +17,7 @@ returns-then-number-lt10 t c = record {
 pub returns-else-number-lt10 : need.returns-else-number-lt10
 returns-else-number-lt10 t c = record {
   after =
-    behind (textOf (c .args .self .now)) (decimal (c .args .number / 10)) ((48 + c .args .number % 10) ∷ []) (textOf (c .append-digits .last .self)) (textOf (c .push-else-number-lt10 .last .self)) (c .append-digits .ensures .after) (c .push-else-number-lt10 .ensures)
-    ∙ ap (λ l. cut (textOf (c .args .self .now) ++ l)) (sym (decimal-step (c .args .number) (c .if-number-lt10 .left) (c .fits .number .fits)));
+      behind (textOf (c .args .self .now)) (decimal (c .args .number / 10)) ((48 + c .args .number % 10) ∷ []) (textOf (c .append-digits .last .self)) (textOf (c .push-else-number-lt10 .last .self)) (c .append-digits .ensures .after) (c .push-else-number-lt10 .ensures)
+      ∙ ap (λ l. cut (textOf (c .args .self .now) ++ l)) (sym (decimal-step (c .args .number) (c .if-number-lt10 .left) (c .fits .number .fits)));
   short = length-decimal-le 20 (c .args .number) (omega arith) (let f = c .fits .number .fits in omega arith) (c .fits .number .fits);
 }

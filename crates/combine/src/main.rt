@@ -13,7 +13,7 @@ use std::io;
 use std::io::BufWriter;
 use std::io::Read;
 use std::io::Write;
-use writing::texts::write_group;
+use writing::write_group;
 
 // The most bytes of input.
 const MOST_INPUT: usize = 65_536;
@@ -233,26 +233,20 @@ mod tests {
     use super::*;
     use std::test::*;
 
-    // The last line of the whole answer to an input.
-    fn last_line(heap: Global, input: &[u8]) -> io::Result<Vec<u8>> {
+    // Checks how the whole answer to an input ends.
+    fn ends(heap: Global, input: &[u8], ending: &[u8]) -> Result<(), Fail> {
         let mut out = Vec::new(heap);
         report(heap, input, &mut out)?;
-        let mut line = Vec::new(heap);
-        for byte in out.as_slice() {
-            if line.last() == Some(&b'\n') {
-                line.clear();
-            }
-            line.push(*byte)?;
-        }
-        Ok(line)
+        check(out.as_slice().ends_with(ending))
     }
 
-    // A line for each plate from 1 on, which has that lever alone.
-    fn lines_up_to(heap: Global, plates: u32) -> io::Result<Vec<u8>> {
+    // Lines of one lever each, with plates of two digits from 10 on.
+    fn levers(heap: Global, count: u8) -> io::Result<Vec<u8>> {
         let mut text = Vec::new(heap);
-        for plate in 0..plates {
-            let plate = plate.saturating_add(1);
-            writeln!(text, "({plate}+)")?;
+        for n in 0..count {
+            let tens = (n / 10 % 9) + b'1';
+            let ones = (n % 10) + b'0';
+            text.extend_from_slice(&[b'(', tens, ones, b'+', b')', b'\n'])?;
         }
         Ok(text)
     }
@@ -260,25 +254,25 @@ mod tests {
     #[test]
     fn plain_endings(rt: LibcRuntime) -> Result<(), Fail> {
         let heap = rt.alloc();
-        check(last_line(heap, b"")?.as_slice() == b"nothing to read\n")?;
-        check(last_line(heap, b"\xff")?.as_slice() == b"0 read, 1 refused, 0 combinations\n")?;
-        let full = lines_up_to(heap, 32)?;
-        check(
-            last_line(heap, full.as_slice())?.as_slice() == b"32 read, 0 refused, 0 combinations\n",
+        ends(heap, b"", b"nothing to read\n")?;
+        ends(heap, b"\xff", b"0 read, 1 refused, 0 combinations\n")?;
+        ends(
+            heap,
+            levers(heap, 32)?.as_slice(),
+            b"32 read, 0 refused, 0 combinations\n",
         )?;
-        let over = lines_up_to(heap, 33)?;
-        check(last_line(heap, over.as_slice())?.as_slice() == b"more than 32 different plates\n")
-    }
-
-    #[test]
-    fn longest_input(rt: LibcRuntime) -> Result<(), Fail> {
-        let heap = rt.alloc();
+        ends(
+            heap,
+            levers(heap, 33)?.as_slice(),
+            b"more than 32 different plates\n",
+        )?;
         let mut long = vec![in heap; b'\n'; 65_536]?;
-        check(
-            last_line(heap, long.as_slice())?.as_slice()
-                == b"0 read, 65536 refused, 0 combinations\n",
+        ends(
+            heap,
+            long.as_slice(),
+            b"0 read, 65536 refused, 0 combinations\n",
         )?;
         long.push(b'\n')?;
-        check(last_line(heap, long.as_slice())?.as_slice() == b"too long\n")
+        ends(heap, long.as_slice(), b"too long\n")
     }
 }

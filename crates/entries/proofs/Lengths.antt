@@ -11,7 +11,7 @@ use Rattle.faults.specs.declared.Fault.{Fault}
 use Rattle.faults.specs.declared.Place.the-variants.{Byte, Plate}
 use Rattle.groups.specs.declared.items.Item.{Item}
 use Rattle.groups.specs.Items.{rising}
-use Rattle.writing.specs.Texts.{groupText}
+use Rattle.lines.specs.Texts.{groupText}
 use Rattle.writing.proofs.Lengths.{group-bytes}
 use Rattle.entries.specs.Entries.{groupLine, placeText, tellText}
 

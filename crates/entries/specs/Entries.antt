@@ -24,7 +24,7 @@ use Rattle.groups.specs.declared.items.Item.{Item}
 use Rattle.groups.specs.Groups.{itemsOf}
 use Rattle.placed.specs.declared.Placed.{Placed}
 use Rattle.reading.specs.Reading.{readGroup}
-use Rattle.writing.specs.Texts.{groupText}
+use Rattle.lines.specs.Texts.{groupText}
 use Rattle.entries.specs.declared.Reading.{Reading}
 
 -- what taking a text into a frame answers: the reading fault, whole; else the group by its places, or the plate that is

@@ -8,8 +8,8 @@ ghost use Rattle.std.specs.Written.{decimal};
 ghost use Rattle.std.specs.declared.option.Option.the-variants.{Some};
 ghost use Rattle.frames.specs.Fitted.{fitted};
 ghost use Rattle.groups.specs.Groups.{itemsOf};
-ghost use Rattle.writing.specs.Lines.{textOf, cut};
-ghost use Rattle.writing.specs.Texts.{writeAnswer, writeAfter};
+ghost use Rattle.lines.specs.Lines.{textOf, cut};
+ghost use Rattle.lines.specs.Texts.{writeAnswer, writeAfter};
 ghost use Rattle.entries.specs.Entries.{EntersAs, groupLine, lineAnswer, lineAfter, heldBy, placeText, tellText};
 use faults::Fault;
 use faults::FaultIntoJournal;
@@ -21,10 +21,10 @@ use faults::ReadingIntoSheet;
 use faults::SheetFault;
 use frames::plates::Plates;
 use groups::group::Group;
+use lines::line::Line;
 use placed::Placed;
 use reading::reader::read_group;
-use writing::line::Line;
-use writing::texts::write_nothing;
+use writing::write_nothing;
 
 // A group that was read, and how many bytes of the buffer its answer line takes.
 #[derive(Drop)]

@@ -81,3 +81,9 @@ pub record Combination (x : ℕ) (a b c : List Item) : Type 0 where
 abbrev pub CombinesTo : ℕ → List Item → List Item → Option (List Item) → Type 0
 CombinesTo x a b None = signAt a x ≡ Some Plus → signAt b x ≡ Some Minus → ⊥
 CombinesTo x a b (Some c) = Combination x a b c
+
+-- the byte of a sign: + - *
+abbrev pub markOf : Sign → ℕ
+markOf Plus = 43
+markOf Minus = 45
+markOf Star = 42

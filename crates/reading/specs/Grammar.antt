@@ -12,16 +12,10 @@ use Rattle.faults.specs.declared.TextFault.{TextFault}
 use Rattle.faults.specs.Faults.{textFaultOf}
 use Rattle.groups.specs.declared.items.Item.{Item}
 use Rattle.groups.specs.declared.items.Sign.{Sign}
-use Rattle.groups.specs.declared.items.Sign.the-variants.{Plus, Minus, Star}
 use Rattle.groups.specs.Items.{rising, signAt, names}
+pub use Rattle.groups.specs.Items.{markOf}
 use Rattle.reading.specs.Numbers.{run, digitsOf, Numeral}
 use Rattle.reading.specs.Tokens.{byteAt}
-
--- the byte of a sign: + - *
-abbrev pub markOf : Sign → ℕ
-markOf Plus = 43
-markOf Minus = 45
-markOf Star = 42
 
 abbrev pub item : ℕ → Sign → Item
 item p s = record { plate = p; sign = s }

@@ -2,6 +2,7 @@
 use entries::answer_group;
 use entries::tell;
 use faults::Place;
+use faults::TextFault;
 use reading::reader::read_group;
 use reading::reader::read_plate;
 use std::alloc::Global;
@@ -33,17 +34,17 @@ const GROUPS: [(&str, &str); 22] = [
     ("(5- 6-))", "1 no 3 at 7"),
 ];
 
-// Numbers and the answers to them, where the text begins at byte 4.
-const NUMBERS: [(&str, &str); 9] = [
-    ("5", "5"),
-    ("2097151", "2097151"),
-    ("2097152", "no 2 at 4"),
-    ("05", "no 2 at 4"),
-    ("0", "no 2 at 4"),
-    ("", "no 2 at 4"),
-    ("x", "no 2 at 4"),
-    ("5 ", "no 3 at 5"),
-    ("2097151+", "no 3 at 11"),
+// Numbers where the text begins at byte 4, with the plate, or the refusal's number and its byte.
+const NUMBERS: [(&str, Result<u32, (u8, usize)>); 9] = [
+    ("5", Ok(5)),
+    ("2097151", Ok(2_097_151)),
+    ("2097152", Err((2, 4))),
+    ("05", Err((2, 4))),
+    ("0", Err((2, 4))),
+    ("", Err((2, 4))),
+    ("x", Err((2, 4))),
+    ("5 ", Err((3, 5))),
+    ("2097151+", Err((3, 11))),
 ];
 
 // The text in which every byte is tried in every position.
@@ -68,7 +69,7 @@ fn count_groups(rt: &LibcRuntime) -> io::Result<u32> {
         if is_answer(text.as_bytes(), expected.as_bytes()) {
             count = count.saturating_add(1);
         } else {
-            println!(rt, "group {text:?} is not answered by {expected:?}")?;
+            println!(rt, "group {text} is not answered by {expected}")?;
         }
     }
     Ok(count)
@@ -78,24 +79,31 @@ fn count_groups(rt: &LibcRuntime) -> io::Result<u32> {
 fn count_numbers(rt: &LibcRuntime) -> io::Result<u32> {
     let mut count: u32 = 0;
     for (text, expected) in NUMBERS {
-        let answer = match read_plate(text.as_bytes(), 4) {
-            Ok(plate) => format!(rt.alloc(), "{plate}")?,
-            Err(fault) => {
-                let number = fault.fault.number;
-                let place = fault.fault.place;
-                match place {
-                    Place::Byte(byte) => format!(rt.alloc(), "no {number} at {byte}")?,
-                    Place::Nowhere | Place::Plate(_) => format!(rt.alloc(), "no {number}")?,
-                }
-            }
-        };
-        if answer.as_str() == expected {
+        if is_number(text.as_bytes(), expected) {
             count = count.saturating_add(1);
         } else {
-            println!(rt, "number {text:?} is answered by {answer:?}")?;
+            println!(rt, "number {text} is not answered as expected")?;
         }
     }
     Ok(count)
+}
+
+// Whether a number is answered so.
+fn is_number(text: &[u8], expected: Result<u32, (u8, usize)>) -> bool {
+    match (read_plate(text, 4), expected) {
+        (Ok(plate), Ok(wanted)) => plate == wanted,
+        (Err(fault), Err(wanted)) => is_fault(fault, wanted),
+        _ => false,
+    }
+}
+
+// Whether a fault has this number and this byte.
+fn is_fault(fault: TextFault, wanted: (u8, usize)) -> bool {
+    let (number, at) = wanted;
+    match fault.fault.place {
+        Place::Byte(byte) => number == fault.fault.number && at == byte,
+        Place::Nowhere | Place::Plate(_) => false,
+    }
 }
 
 // How many of the texts with one byte replaced are answered as they should be; prints the others.
@@ -133,12 +141,10 @@ fn is_answer(text: &[u8], expected: &[u8]) -> bool {
 
 // Whether a text is refused with this number at this byte, or read where no fault is expected.
 fn is_right(text: &[u8], expected: Option<(u8, usize)>) -> bool {
-    match read_group(text, 0) {
-        Ok(_) => expected.is_none(),
-        Err(fault) => match (expected, fault.fault.place) {
-            (Some((number, at)), Place::Byte(byte)) => number == fault.fault.number && at == byte,
-            _ => false,
-        },
+    match (read_group(text, 0), expected) {
+        (Ok(_), None) => true,
+        (Err(fault), Some(wanted)) => is_fault(fault, wanted),
+        _ => false,
     }
 }
 

@@ -26,7 +26,8 @@ use Rattle.reading.specs.Grammar.{markOf, item, Items, none, more, Once, Spells
 use Rattle.reading.specs.Numbers.{Numeral}
 use Rattle.reading.specs.Reading.{readGroup}
 use Rattle.reading.proofs.Laws.{spelled-read}
-use Rattle.writing.specs.Texts.{itemText, nextText, rowText, groupText, writeAnswer, writeAfter, ReadBack, ReadsBack}
+use Rattle.lines.specs.Texts.{itemText, nextText, rowText, groupText, writeAnswer, writeAfter}
+use Rattle.writing.specs.Back.{ReadBack, ReadsBack}
 
 -- a row of items with its last item apart
 record LastApart (text : List ℕ) (is : List Item) : Type 0 where

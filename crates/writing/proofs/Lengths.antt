@@ -11,8 +11,8 @@ use Rattle.std.proofs.shelf.Decimals.{length-decimal-le}
 use Rattle.groups.specs.declared.items.Item.{Item}
 use Rattle.groups.specs.Items.{rising}
 use Rattle.groups.proofs.Rising.{rising-step}
-use Rattle.reading.specs.Grammar.{markOf}
-use Rattle.writing.specs.Texts.{itemText, nextText, rowText, groupText}
+use Rattle.groups.specs.Items.{markOf}
+use Rattle.lines.specs.Texts.{itemText, nextText, rowText, groupText}
 
 pub number-short : (n : ℕ) → n < 2 ^ 32 → length (decimal n) ≤ 320
 number-short n h = let l = length-decimal-le 10 n (omega arith) (omega arith) (omega arith) in omega arith

@@ -1,3 +1,2 @@
-pub mod Cuts
-pub mod Lengths
 pub mod Back
+pub mod Lengths

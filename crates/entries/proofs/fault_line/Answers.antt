@@ -4,8 +4,8 @@ use lib.ListN.{length}
 use mathlib.Core.List.{[], _∷_, _++_, append-assoc}
 use lib.Chars.{codes}
 use Rattle.std.specs.Written.{decimal}
-use Rattle.writing.specs.Lines.{textOf, cut}
-use Rattle.writing.proofs.Cuts.{behind, cut-short}
+use Rattle.lines.specs.Lines.{textOf, cut}
+use Rattle.lines.proofs.Cuts.{behind, cut-short}
 use Rattle.entries.specs.Entries.{placeText, tellText}
 use Rattle.entries.proofs.Lengths.{fault-line-short}
 use Rattle.entries.proofs.fault_line.Needs as need

@@ -5,9 +5,9 @@ use native.Mathlib.Omega.{arith}
 use lib.ListN.{length, length-take}
 use Rattle.std.specs.Written.{decimal}
 use Rattle.groups.specs.Groups.{itemsOf}
-use Rattle.writing.specs.Lines.{textOf, cut}
-use Rattle.writing.specs.Texts.{groupText}
-use Rattle.writing.proofs.Cuts.{behind, cut-short}
+use Rattle.lines.specs.Lines.{textOf, cut}
+use Rattle.lines.specs.Texts.{groupText}
+use Rattle.lines.proofs.Cuts.{behind, cut-short}
 use Rattle.entries.specs.Entries.{groupLine}
 use Rattle.entries.proofs.Lengths.{group-line-short}
 use Rattle.entries.proofs.group_line.Needs as need

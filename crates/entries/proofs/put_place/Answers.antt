@@ -5,8 +5,8 @@ use lib.ListN.{length}
 use mathlib.Core.List.{_++_}
 use lib.Chars.{codes}
 use Rattle.std.specs.Written.{decimal}
-use Rattle.writing.specs.Lines.{textOf, cut}
-use Rattle.writing.proofs.Cuts.{behind, unchanged}
+use Rattle.lines.specs.Lines.{textOf, cut}
+use Rattle.lines.proofs.Cuts.{behind, unchanged}
 use Rattle.entries.specs.Entries.{placeText}
 use Rattle.entries.proofs.Lengths.{byte-short, plate-short}
 use Rattle.entries.proofs.put_place.Needs as need

@@ -1,3 +1,4 @@
+pub mod Examples
 pub mod Grammar
 pub mod Numbers
 pub mod Reading

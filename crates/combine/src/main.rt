@@ -7,6 +7,8 @@ use entries::read_placed;
 use entries::tell;
 use frames::plates::Plates;
 use groups::group::Group;
+use lines::line::Line;
+use lines::texts::LINE;
 use placed::Placed;
 use std::alloc::Global;
 use std::io;
@@ -17,9 +19,6 @@ use writing::write_group;
 
 // The most bytes of input.
 const MOST_INPUT: usize = 65_536;
-
-// The bytes of a buffer for one line.
-const LINE: usize = 320;
 
 // A line that was read as a group.
 #[derive(Clone, Copy)]
@@ -70,12 +69,14 @@ fn report<W: Write>(heap: Global, input: &[u8], out: &mut W) -> io::Result<()> {
     };
     let groups = place_all(heap, &plates, lines.entries.as_slice())?;
     let combinations = write_combinations(&plates, groups.as_slice(), out)?;
-    let read = groups.len();
-    let refused = lines.refused;
-    writeln!(
-        out,
-        "{read} read, {refused} refused, {combinations} combinations"
-    )
+    let mut line = Line::new();
+    line.put_number(groups.len() as u64);
+    line.put_text(b" read, ");
+    line.put_number(u64::from(lines.refused));
+    line.put_text(b" refused, ");
+    line.put_number(combinations);
+    line.put_text(b" combinations\n");
+    out.write_all(line.text())
 }
 
 // Reads every line, and answers each.
@@ -221,7 +222,14 @@ fn write_combination<W: Write>(
     out: &mut W,
 ) -> io::Result<()> {
     let (first, second, plate) = on;
-    write!(out, "{first} {second} on {plate} ")?;
+    let mut line = Line::new();
+    line.put_number(u64::from(first));
+    line.put_text(b" ");
+    line.put_number(u64::from(second));
+    line.put_text(b" on ");
+    line.put_number(u64::from(plate));
+    line.put_text(b" ");
+    out.write_all(line.text())?;
     let mut buffer = [0; LINE];
     let group = plates.spell(placed);
     let written = write_group(Some(&group), &mut buffer);
@@ -256,6 +264,11 @@ mod tests {
         let heap = rt.alloc();
         ends(heap, b"", b"nothing to read\n")?;
         ends(heap, b"\xff", b"0 read, 1 refused, 0 combinations\n")?;
+        ends(
+            heap,
+            b"(5+)\n(5-)",
+            b"1 2 on 5 ()\n2 read, 0 refused, 1 combinations\n",
+        )?;
         ends(
             heap,
             levers(heap, 32)?.as_slice(),

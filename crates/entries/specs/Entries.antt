@@ -38,20 +38,21 @@ EntersAs ps start text (Err (sheet.Own f)) = (is : List Item) × (readGroup star
 abbrev pub groupLine : ℕ → List Item → List ℕ
 groupLine n is = decimal n ++ (32 ∷ groupText is)
 
--- the answer to a line that has to be a group: 16 for a short buffer, the reading fault, whole, or the group and the length
--- of its answer line
+-- the answer to a line by what reading it gave: the group and the length of its answer line, or the reading fault, whole
 abbrev pub answerBy : ℕ → Result (List Item) TextFault → Result (List Item × ℕ) JournalFault
 answerBy n (Ok is) = Ok (is, length (groupLine n is))
 answerBy n (Err f) = Err (journal.Reading f)
 
+-- the answer to a line that has to be a group: refusal 16 for a short buffer, and else by what reading it gives
 abbrev pub lineAnswer : ℕ → List ℕ → List ℕ → Result (List Item × ℕ) JournalFault
 lineAnswer n text buffer = cond (ltb (length buffer) 320) (Err (journal.Own (faultOf ShortBuffer Nowhere))) (answerBy n (readGroup 0 text))
 
--- and the buffer after it: the answer line from the first byte on, where there is one
+-- the buffer then: the answer line from the first byte on, and behind it what was there; as it was where reading refused
 abbrev pub bufferBy : ℕ → Result (List Item) TextFault → List ℕ → List ℕ
 bufferBy n (Ok is) buffer = groupLine n is ++ drop (length (groupLine n is)) buffer
 bufferBy n (Err f) buffer = buffer
 
+-- the buffer after a line that has to be a group
 abbrev pub lineAfter : ℕ → List ℕ → List ℕ → List ℕ
 lineAfter n text buffer = cond (ltb (length buffer) 320) buffer (bufferBy n (readGroup 0 text) buffer)
 

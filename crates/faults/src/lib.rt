@@ -5,7 +5,7 @@ ghost use Rattle.faults.specs.declared.SheetFault.the-variants as sheet;
 ghost use Rattle.faults.specs.declared.JournalFault.the-variants as journal;
 
 // What is refused. `number` gives the number that people know it by.
-#[derive(Clone, Copy, PartialEq, Eq)]
+#[derive(Clone, Copy)]
 pub enum Refusal {
     // a journal line that begins with none of the journal's words
     Word,
@@ -67,20 +67,20 @@ pub struct Fault {
 }
 
 // A fault found while reading a text.
-#[derive(Clone, Copy, PartialEq, Eq)]
+#[derive(Clone, Copy)]
 pub struct TextFault {
     pub fault: Fault,
 }
 
 // A fault of a call on the sheet: a text's fault, whole, or one of the call's own.
-#[derive(Clone, Copy, PartialEq, Eq)]
+#[derive(Clone, Copy)]
 pub enum SheetFault {
     Reading(TextFault),
     Own(Fault),
 }
 
 // A fault of the journal: a text's or a sheet's fault, whole, or one of the journal's own.
-#[derive(Clone, Copy, PartialEq, Eq)]
+#[derive(Clone, Copy)]
 pub enum JournalFault {
     Reading(TextFault),
     Refused(SheetFault),

@@ -17,6 +17,7 @@ pub use Rattle.groups.specs.Items.{markOf}
 use Rattle.reading.specs.Numbers.{run, digitsOf, Numeral}
 use Rattle.reading.specs.Tokens.{byteAt}
 
+-- an item from its parts
 abbrev pub item : ℕ → Sign → Item
 item p s = record { plate = p; sign = s }
 

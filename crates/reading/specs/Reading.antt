@@ -27,18 +27,20 @@ abbrev pub _>>=_ : {A B : Type 0} → Result A TextFault → (A → Result B Tex
 _>>=_ (Ok x) f = f x
 _>>=_ (Err e) f = Err e
 
--- a number is due
+-- where a number is due: the plate that stands there, or refusal 2
 abbrev pub numbered : ℕ → Option ℕ → Result ℕ TextFault
 numbered at None = Err (textFaultOf refusal.Number at)
 numbered at (Some p) = Ok p
 
+-- the same, from the digits that stand there
 abbrev pub numberDue : ℕ → List ℕ → Result ℕ TextFault
 numberDue at ds = numbered at (plateOf ds)
 
--- the number of an item: no room may be wanting, and then the plate must be new
+-- the number of an item: refusal 5 where no room is left, then 4 for a plate named before
 abbrev pub itemNumber : ℕ → List Item → ℕ → ℕ → Result ℕ TextFault
 itemNumber room seen at p = cond (eqb room 0) (Err (textFaultOf refusal.Ninth at)) (cond (names seen p) (Err (textFaultOf refusal.Repeated at)) (Ok p))
 
+-- where the number of an item is due
 abbrev pub plateDue : ℕ → List Item → ℕ → List ℕ → Result ℕ TextFault
 plateDue room seen at ds = numberDue at ds >>= itemNumber room seen at
 
@@ -46,29 +48,31 @@ plateDue room seen at ds = numberDue at ds >>= itemNumber room seen at
 abbrev pub signOf : ℕ → Option Sign
 signOf b = cond (eqb b 43) (Some Plus) (cond (eqb b 45) (Some Minus) (cond (eqb b 42) (Some Star) None))
 
--- a sign is due
+-- where a sign is due: the one that stands there, or refusal 3
 abbrev pub signed : ℕ → Option Sign → Result Sign TextFault
 signed at None = Err (textFaultOf refusal.Mark at)
 signed at (Some s) = Ok s
 
+-- the same, from the byte that stands there, if there is one that is no digit
 abbrev pub signDue : ℕ → Option ℕ → Result Sign TextFault
 signDue at None = Err (textFaultOf refusal.Mark at)
 signDue at (Some b) = signed at (signOf b)
 
--- the end is due
+-- where the end is due
 abbrev pub endDue : ℕ → List ℕ → Result (Unit {0}) TextFault
 endDue at [] = Ok tt
 endDue at (b ∷ bs) = Err (textFaultOf refusal.Mark at)
 
--- a space, and then one more item, or the closing bracket and then the end
+-- behind an item: a space (one more item is due), or the closing bracket and the end (none is), or refusal 3
 abbrev pub moreBy : ℕ → Option ℕ → List ℕ → Result Bool TextFault
 moreBy at None rest = Err (textFaultOf refusal.Mark at)
 moreBy at (Some b) rest = cond (eqb b 32) (Ok true) (cond (eqb b 41) (endDue (byteAt at 1) rest >>= λ _. Ok false) (Err (textFaultOf refusal.Mark at)))
 
+-- the same, from the text
 abbrev pub moreDue : ℕ → List ℕ → Result Bool TextFault
 moreDue at text = moreBy at (symbol text) (drop 1 text)
 
--- what is due behind an item, and what follows if it is a space: the items are `held` by then
+-- how reading goes on behind an item, with the items `held`: with the next item, or not at all
 abbrev pub itemsFrom : (ℕ → List ℕ → Result (List Item) TextFault) → List Item → ℕ → List ℕ → Bool → Result (List Item) TextFault
 itemsFrom next held at text true = next (byteAt at 1) (drop 1 text)
 itemsFrom next held at text false = Ok held
@@ -84,7 +88,7 @@ readItems (suc room) seen at text =
     let held = insert (record { plate = p; sign = s }) seen in
     moreDue (byteAt at₁ 1) (drop 1 text₁) >>= itemsFrom (readItems room held) held (byteAt at₁ 1) (drop 1 text₁)
 
--- an opening bracket is due
+-- where an opening bracket is due
 abbrev pub openDue : ℕ → Option ℕ → Result (Unit {0}) TextFault
 openDue at None = Err (textFaultOf refusal.Mark at)
 openDue at (Some b) = cond (eqb b 40) (Ok tt) (Err (textFaultOf refusal.Mark at))

@@ -4,6 +4,8 @@
 // A frame has the plates 1 to a number of at most 32. A crew is a kind (0 free, 1 hands, else split) and its number. A line
 // is 16 bytes, eight times a plate and a sign, with the plate 0 for no item; lines from the 129th on are passed over. A
 // group goes out as eight bytes: its upper ends and then its lower ends, each as a number of 32 bits, the lowest byte first.
+#![tactic(auto)]
+
 ghost use Rattle.std.specs.Prelude.{length, ◌<◌};
 ghost use Rattle.frames.specs.Fitted.{fitted};
 ghost use Rattle.rows.specs.Rows.{groups_of, AllWithin};

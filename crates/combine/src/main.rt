@@ -1,5 +1,7 @@
 // Reads a group from each line of standard input and says what it read, or which fault the line has. Then writes each
 // combination of two of the groups on each lever where they oppose, and last how many of each there were.
+#![tactic(auto)]
+
 ghost use Rattle.std.specs.Prelude.{◌<◌, length};
 
 use entries::{answer_group, read_placed, tell};

@@ -1,5 +1,7 @@
 // The cut list of the lines in force: the lines that the fitters file. specs/Searching.antt says what is searched, and
 // specs/Deciding.antt what is told of one line.
+#![tactic(auto)]
+
 ghost use Rattle.std.specs.Prelude.{◌≡◌, ℕ, ◌<◌, ◌≤◌, true, false, length, slice_index_or, slice_set};
 ghost use Rattle.meaning.specs.CutLists.{IsCutList};
 ghost use Rattle.placed.specs.Spelling.{spell};

@@ -1,5 +1,7 @@
 // A line of text into a frame, and the answer lines of what was read and of a fault.
 // specs/Entries.antt says which answer comes of which line.
+#![tactic(auto)]
+
 ghost use Rattle.std.specs.Prelude.{◌≡◌, ◌≤◌, ◌∷◌, ◌++◌, length, Some, decimal};
 ghost use Rattle.frames.specs.Fitted.{fitted};
 ghost use Rattle.groups.specs.Groups.{items_of};

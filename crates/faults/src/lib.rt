@@ -1,4 +1,6 @@
 // Faults: what is refused, by which layer, and where. specs/Faults.antt gives each refusal its number and its layer.
+#![tactic(auto)]
+
 ghost use Rattle.std.specs.Prelude.{◌≡◌};
 ghost use Rattle.faults.specs.Faults.{number_of, layer_of, fault_of, text_fault_of, sheet_record, journal_record};
 ghost use Rattle.faults.specs.declared.SheetFault.TheVariants as sheet;

@@ -1,5 +1,7 @@
 // The plates of a frame: where a plate stands, and groups between their two shapes, spelled and by places.
 // specs/Fitted.antt says what is looked for among the plates.
+#![tactic(auto)]
+
 pub mod methods;
 mod places;
 pub mod plates;

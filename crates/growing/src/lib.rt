@@ -1,6 +1,8 @@
 // The table of one more line, grown from the table of the lines so far. None but groups of the table to come are ever held.
 // specs/Growth.antt says what is answered; meaning/specs/Laws.antt has the laws that it rests on, and specs/Gathered.antt
 // what is known of the groups on the way.
+#![tactic(auto)]
+
 ghost use Rattle.std.specs.Prelude.{◌≡◌, length};
 ghost use Rattle.placed.specs.Signs.{Within};
 ghost use Rattle.frames.specs.Fitted.{fitted};

@@ -1,5 +1,7 @@
 // What a crew is asked about a group by its places: whether its levers with * can be between together.
 // specs/Standing.antt has the frame that is meant.
+#![tactic(auto)]
+
 ghost use Rattle.std.specs.Prelude.{◌≡◌, ◌≤◌, true, length, take};
 ghost use Rattle.groups.specs.Rises.{climbing};
 ghost use Rattle.meaning.specs.Frames.{starred, stars};

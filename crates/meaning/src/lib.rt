@@ -2,6 +2,8 @@
 // Read specs/States.antt, Crews.antt, Frames.antt, Tables.antt, CutLists.antt and Shown.antt, in this order; specs/Laws.antt
 // says what is so of them, and specs/SmallFrames.antt has ten frames with their tables. There is no code here to run: each
 // function carries one law as its promise, so that the law is proved.
+#![tactic(auto)]
+
 ghost use Rattle.meaning.specs.Laws.{MethodIsComplete, CombinationFollows, CombinationIsForbidden};
 ghost use Rattle.meaning.specs.Laws.{ForbiddenIsExcluded, OrderIsStrict, SomeTable, OneTable, TableCovers};
 ghost use Rattle.meaning.specs.Laws.{NoLinesNoTable, NothingPossible, OtherLevers, OneMoreLine};

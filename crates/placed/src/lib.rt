@@ -2,6 +2,8 @@
 // specs/Spelling.antt says what such a group spells; covering, equality and combining on the sets are those of the
 // spelled items (groups/specs/Items.antt), which specs/Laws.antt states over any frame.
 // src/order.rt has the table's order.
+#![tactic(auto)]
+
 ghost use Rattle.std.specs.Prelude.{◌≡◌, ℕ, ◌&&◌, if◌then◌else◌, Some, None, Decides, nat_eq, nat_lt};
 ghost use Rattle.groups.specs.declared.items.Sign.TheVariants.{Plus, Minus, Star};
 ghost use Rattle.groups.specs.Items.{joint};

@@ -1,4 +1,6 @@
 // Reading a group, or a number, from any bytes: from left to right, and the first fault counts.
 // specs/Grammar.antt has the grammar and the faults in words of their own; specs/Reading.antt the reading step by step.
+#![tactic(auto)]
+
 pub mod reader;
 mod tokens;

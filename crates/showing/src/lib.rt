@@ -1,6 +1,8 @@
 // What a group shows, told by the table with no search: a forbidden group the first group of the table that covers it, any
 // other the first setting that shows it and rests elsewhere. specs/Showing.antt has the promises; meaning/specs/Shown.antt
 // says which setting is the first.
+#![tactic(auto)]
+
 ghost use Rattle.showing.specs.Showing.{ShownOver, FoundOver, CompletedOver, SetOver};
 
 use groups::items::Sign;

@@ -1,5 +1,7 @@
 // What the table of the lines so far tells of a group under one more line, with no search: whether it is forbidden then, and
 // which of its ends can go. specs/Told.antt has the promises; meaning/specs/Laws.antt (`read_off`, `OneMoreLine`) what is told.
+#![tactic(auto)]
+
 ghost use Rattle.std.specs.Prelude.{◌≡◌};
 ghost use Rattle.telling.specs.Told.{CoveredOver, SettledOver, AllSettledOver, ReadOver};
 ghost use Rattle.telling.specs.Gaps.{gap_of};

@@ -1,5 +1,7 @@
 // Runs frames through the engine, and compares their tables and cut lists with what they should be: worked examples with
 // what is known of them, and frames drawn by lot with a trial of all their settings.
+#![tactic(auto)]
+
 mod comparing;
 mod drawing;
 mod examples;

@@ -1,4 +1,6 @@
 // Reads worked examples, and a short text with every byte in every position, and compares each answer with what it should be.
+#![tactic(auto)]
+
 use entries::{answer_group, tell};
 use faults::{Place, TextFault};
 use reading::reader::{read_group, read_plate};

@@ -1,5 +1,7 @@
 // Writing a number or a group into the caller's buffer. lines/specs/Texts.antt says what is written and what a call leaves in
 // the buffer, specs/Back.antt that a group is read back from it.
+#![tactic(auto)]
+
 ghost use Rattle.std.specs.Prelude.{◌≡◌, Some, None, decimal};
 ghost use Rattle.std.specs.Option.{option_map};
 ghost use Rattle.groups.specs.Groups.{items_of};

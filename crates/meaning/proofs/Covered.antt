@@ -1,10 +1,10 @@
 -- Groups that are covered by one of a list, and lines that are shown. Assumes nothing.
-use Rattle.std.proofs.Common.{◌≡◌, ℕ, Bool, true, false, ◌||◌, ◌⊎◌, List, [], ◌∷◌, sym, refl, ◌∙◌, inl, inr, ⊎_elim}
+use Rattle.std.proofs.Common.{◌≡◌, ℕ, true, List, [], ◌∷◌, ◌∙◌, ⊎_elim}
 use Rattle.std.specs.List.{ContainsAt as Has, AllByRecursion as All}
 use Rattle.std.proofs.ByRecursion.{all-has}
 use Rattle.std.proofs.lemmas.Bool.{or_cases, or_left, or_right, false≢true}
 use Rattle.groups.specs.declared.items.Item.{Item}
-use Rattle.groups.specs.Items.{rising, covers}
+use Rattle.groups.specs.Items.{covers}
 use Rattle.meaning.specs.States.{Setting, shows, shows_any}
 use Rattle.meaning.specs.Frames.{group_over}
 use Rattle.meaning.specs.Tables.{covered_by}

@@ -1,16 +1,15 @@
 -- What is read off the table of a group is read off it of each group that it covers. Assumes nothing.
-use Rattle.std.proofs.Common.{◌≡◌, ℕ, ◌<◌, ◌≤◌, Bool, true, false, cond, not, ◌&&◌, ◌||◌, eqb, ◌⊎◌, List, [], ◌∷◌, is_some, Some, None, Option, sym, refl, ap, ◌∙◌, subst, inl, inr, ⊎_elim, arith}
+use Rattle.std.proofs.Common.{◌≡◌, ℕ, ◌<◌, ◌≤◌, true, false, not, ◌&&◌, eqb, ◌⊎◌, List, [], ◌∷◌, is_some, Some, None, Option, sym, refl, ap, ◌∙◌, inl, inr, ⊎_elim, arith}
 use Rattle.std.specs.List.{ContainsAt as Has, AllByRecursion as All}
-use Rattle.std.proofs.lemmas.Bool.{and_parts, and_from, or_cases, or_left, or_right, eq-eqb, ne_eqb, cond-true, cond-false, cases_eq, cases_Bool, false≢true, not-true}
+use Rattle.std.proofs.lemmas.Bool.{and_parts, and_from, or_cases, or_left, or_right, eq-eqb, ne_eqb, cond-true, cond-false, cases_Bool, false≢true, not-true}
 use Rattle.groups.specs.declared.items.Item.{Item}
 use Rattle.groups.specs.declared.items.Sign.{Sign}
-use Rattle.groups.specs.declared.items.Sign.TheVariants.{Plus, Minus, Star}
 use Rattle.groups.specs.Items.{rising, sign_at, names, insert, sits, covers}
 use Rattle.groups.proofs.Rising.{insert_rises, insert_sign}
 use Rattle.meaning.specs.Frames.{group_over}
 use Rattle.meaning.specs.Tables.{covered_by}
 use Rattle.meaning.specs.Laws.{opposite, covered_with, settled, all_settled, read_off}
-use Rattle.meaning.proofs.Ends.{ends, upper, lower, Within, sits_within, within_sits, covers_has, has_covers}
+use Rattle.meaning.proofs.Ends.{ends, Within, sits_within, within_sits, covers_has, has_covers}
 use Rattle.meaning.proofs.Combining.{within_all}
 use Rattle.meaning.proofs.Covered.{covered_trans}
 use Rattle.meaning.proofs.Fitted.{over_parts, unnamed_none}

@@ -1,21 +1,19 @@
 -- The ten small frames: a trial of all groups and settings finds their tables. Assumes nothing.
-use Rattle.std.proofs.Common.{◌≡◌, ℕ, Bool, true, false, not, ◌&&◌, ◌||◌, ◌⊎◌, List, [], ◌∷◌, refl, subst, inl, inr, ⊎_elim}
+use Rattle.std.proofs.Common.{◌≡◌, ℕ, Bool, true, not, ◌&&◌, ◌||◌, List, [], ◌∷◌, refl, subst, ⊎_elim}
 use Rattle.std.specs.List.{ContainsAt as Has, AllByRecursion as All}
 use Rattle.std.proofs.ByRecursion.{all-has}
-use Rattle.std.proofs.lemmas.Bool.{and_parts, and_from, or_cases, not-true, both_ways, false≢true}
+use Rattle.std.proofs.lemmas.Bool.{and_parts, or_cases, not-true, both_ways}
 use Rattle.groups.specs.declared.items.Item.{Item}
 use Rattle.groups.specs.Items.{covers}
 use Rattle.groups.specs.Rises.{climbing}
-use Rattle.meaning.specs.States.{Setting, shows}
 use Rattle.meaning.specs.Crews.{Lawful}
-use Rattle.meaning.specs.Frames.{Frame, Sound, group_over, possible, Forbidden, Shortest}
+use Rattle.meaning.specs.Frames.{Frame, Sound, group_over, Forbidden, Shortest}
 use Rattle.meaning.specs.Tables.{IsTable, in_order, covered_by}
 use Rattle.meaning.specs.SmallFrames.{Example, small_frames, neither_end, SmallFrames}
 use Rattle.meaning.proofs.Ends.{covers_same}
 use Rattle.meaning.proofs.Fitted.{over_parts}
-use Rattle.meaning.proofs.Covered.{Cover, covered_cover}
+use Rattle.meaning.proofs.Covered.{covered_cover}
 use Rattle.meaning.proofs.Lawful.{hands_lawful, free_lawful}
-use Rattle.meaning.proofs.Members.{has_first, has_later}
 use Rattle.meaning.proofs.Plain.{nothing_possible}
 use Rattle.meaning.proofs.Trial.{every_group, group_tried, is_forbidden, forbidden_tried}
 

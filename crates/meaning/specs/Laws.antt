@@ -7,7 +7,6 @@ use Rattle.groups.specs.declared.items.Sign.{Sign}
 use Rattle.groups.specs.declared.items.Sign.TheVariants.{Plus, Minus, Star}
 use Rattle.groups.specs.Items.{rising, sign_at, names, insert, sits, Combination}
 use Rattle.meaning.specs.States.{Setting, shows, shows_any}
-use Rattle.meaning.specs.Crews.{Admits}
 use Rattle.meaning.specs.Frames.{Frame, Sound, group_over, manageable, permits, possible, Forbidden}
 use Rattle.meaning.specs.Tables.{IsTable, before, covered_by}
 use Rattle.meaning.specs.CutLists.{IsCutList}

@@ -1,17 +1,17 @@
 -- Combinations: what they follow from, and that they can be made. Assumes nothing.
-use Rattle.std.proofs.Common.{◌≡◌, ℕ, Bool, true, false, cond, ◌||◌, eqb, ◌⊎◌, List, [], ◌∷◌, is_some, Some, None, Option, sym, refl, ap, ◌∙◌, subst, inl, inr, ⊎_elim, arith}
+use Rattle.std.proofs.Common.{◌≡◌, ℕ, true, false, cond, eqb, ◌⊎◌, List, is_some, Some, None, Option, sym, refl, ap, ◌∙◌, subst, inl, inr, ⊎_elim}
 use Rattle.std.proofs.lemmas.Bool.{and_from, or_cases, or_left, or_right, eq-eqb, ne_eqb, cond-true, cond-false, cond_both, cases_eq}
 use Rattle.groups.specs.declared.items.Item.{Item}
 use Rattle.groups.specs.declared.items.Sign.{Sign}
-use Rattle.groups.specs.declared.items.Sign.TheVariants.{Plus, Minus, Star}
-use Rattle.groups.specs.Items.{rising, sign_at, names, covers, joint, Combination}
+use Rattle.groups.specs.declared.items.Sign.TheVariants.{Plus, Minus}
+use Rattle.groups.specs.Items.{sign_at, names, joint, Combination}
 use Rattle.groups.specs.Rises.{climbing, items_on}
-use Rattle.meaning.specs.States.{State, normal, reversed, between, Setting, shows, shows_any}
-use Rattle.meaning.specs.Frames.{Frame, Sound, is_one_of, group_over, manageable, Forbidden}
-use Rattle.meaning.specs.Laws.{CombinationFollows, CombinationIsForbidden, Excluded}
+use Rattle.meaning.specs.States.{State, normal, reversed, between, shows}
+use Rattle.meaning.specs.Frames.{is_one_of, group_over}
+use Rattle.meaning.specs.Laws.{CombinationFollows, CombinationIsForbidden}
 use Rattle.meaning.specs.Shown.{sign_for}
-use Rattle.meaning.proofs.Ends.{End, upper, lower, ends, Within, states_of, shows_has, has_shows, has_covers, joint_ends}
-use Rattle.meaning.proofs.Fitted.{Over, over_parts, items_all, items_over, unfitted_none, fitted_names, names_fitted}
+use Rattle.meaning.proofs.Ends.{ends, Within, states_of, shows_has, has_shows, joint_ends}
+use Rattle.meaning.proofs.Fitted.{over_parts, items_all, items_over, unfitted_none, fitted_names, names_fitted}
 use Rattle.meaning.proofs.Resting.{forbidden_excluded, excluded_forbidden}
 
 -- each end is within, at the lever x and at all others

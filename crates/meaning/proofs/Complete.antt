@@ -1,24 +1,24 @@
 -- The method is complete: a forbidden group is covered, by going through the levers that it does not name. Assumes nothing.
-use Rattle.std.proofs.Common.{◌≡◌, ℕ, ◌<◌, ◌≤◌, Bool, true, false, cond, ◌&&◌, ◌||◌, eqb, ◌⊎◌, List, [], ◌∷◌, is_some, Some, None, Option, sym, refl, ap, ◌∙◌, subst, inl, inr, ⊎_elim, arith}
-use Rattle.std.specs.List.{ContainsAt as Has, AllByRecursion as All}
+use Rattle.std.proofs.Common.{◌≡◌, ℕ, true, false, eqb, ◌⊎◌, List, [], ◌∷◌, is_some, Some, None, Option, sym, refl, ap, ◌∙◌, inl, inr, ⊎_elim, arith}
+use Rattle.std.specs.List.{ContainsAt as Has}
 use Rattle.std.proofs.ByRecursion.{all-has}
-use Rattle.std.proofs.lemmas.Bool.{and_from, or_cases, or_left, or_right, eq-eqb, ne_eqb, eqb-true, cond-true, cond-false, cases_eq, cases_Bool, both_ways, false≢true}
+use Rattle.std.proofs.lemmas.Bool.{or_cases, or_left, or_right, eq-eqb, eqb-true, cases_eq, cases_Bool, false≢true}
 use Rattle.groups.specs.declared.items.Item.{Item}
 use Rattle.groups.specs.declared.items.Sign.{Sign}
 use Rattle.groups.specs.declared.items.Sign.TheVariants.{Plus, Minus, Star}
-use Rattle.groups.specs.Items.{rising, sign_at, names, covers, joint, Combination}
-use Rattle.groups.specs.Rises.{climbing, items_on}
-use Rattle.meaning.specs.States.{State, normal, reversed, between, Setting, shows, shows_any}
-use Rattle.meaning.specs.Frames.{Frame, Sound, is_one_of, group_over, is_star, manageable, Forbidden, starred}
+use Rattle.groups.specs.Items.{sign_at, names, covers}
+use Rattle.groups.specs.Rises.{items_on}
+use Rattle.meaning.specs.States.{normal, Setting}
+use Rattle.meaning.specs.Frames.{Frame, Sound, is_one_of, group_over, is_star, Forbidden, starred}
 use Rattle.meaning.specs.Tables.{covered_by}
-use Rattle.meaning.specs.Laws.{Closed, MethodIsComplete, Excluded}
+use Rattle.meaning.specs.Laws.{Closed, MethodIsComplete}
 use Rattle.meaning.specs.Shown.{sign_for}
-use Rattle.meaning.proofs.Ends.{End, upper, lower, ends, Within, states_of, covers_has, has_covers, shows_has, joint_ends}
-use Rattle.meaning.proofs.Fitted.{Over, over_parts, items_all, items_over, fitted_names, has_named, unnamed_none}
+use Rattle.meaning.proofs.Ends.{upper, lower, ends, Within, covers_has, has_covers, shows_has, joint_ends}
+use Rattle.meaning.proofs.Fitted.{over_parts, items_over, fitted_names, has_named, unnamed_none}
 use Rattle.meaning.proofs.Managed.{manageable_stars, manageable_within}
 use Rattle.meaning.proofs.Given.{given_sign, given, given_here, given_other, given_more}
 use Rattle.meaning.proofs.Resting.{rest_at, rest, rest_shows, forbidden_excluded, excluded_forbidden, excluded_covered}
-use Rattle.meaning.proofs.Covered.{Cover, covered_cover, cover_covered, covered_trans, Shown, any_shown}
+use Rattle.meaning.proofs.Covered.{Cover, covered_cover, cover_covered, covered_trans, any_shown}
 use Rattle.meaning.proofs.Combining.{within_all, joined_sign, combined, combination_over}
 
 -- ## All plates are named: the group is itself a setting

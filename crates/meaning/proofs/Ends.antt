@@ -1,12 +1,12 @@
 -- Groups and settings by the two ends of each lever: to show and to cover is to have each end. Assumes nothing.
-use Rattle.std.proofs.Common.{◌≡◌, ℕ, ◌≤◌, Bool, true, false, cond, not, ◌&&◌, ◌||◌, eqb, ◌⊎◌, List, [], ◌∷◌, is_some, Some, None, Option, sym, refl, ap, ◌∙◌, subst, inl, inr, ⊎_elim, arith}
-use Rattle.std.proofs.lemmas.Bool.{and_parts, and_from, eq-eqb, ne_eqb, eqb-true, cond-true, cond-false, cases_eq, false≢true}
+use Rattle.std.proofs.Common.{◌≡◌, ℕ, Bool, true, false, ◌&&◌, ◌||◌, List, [], ◌∷◌, Some, None, Option, sym, refl, ap, ◌∙◌, subst, ⊎_elim, arith}
+use Rattle.std.proofs.lemmas.Bool.{and_parts, and_from, eq-eqb, ne_eqb, cond-true, cond-false, cases_eq, false≢true}
 use Rattle.groups.specs.declared.items.Item.{Item}
 use Rattle.groups.specs.declared.items.Sign.{Sign}
 use Rattle.groups.specs.declared.items.Sign.TheVariants.{Plus, Minus, Star}
 use Rattle.groups.specs.Items.{rising, sign_at, sits, covers, joint}
 use Rattle.groups.proofs.Rising.{rising_step, unnamed_below, same_signs}
-use Rattle.meaning.specs.States.{State, normal, reversed, between, holds, Setting, shows}
+use Rattle.meaning.specs.States.{State, holds, Setting, shows}
 use Rattle.meaning.specs.Shown.{sign_for}
 
 -- a lever's ends: the upper is had by + and normal, the lower by - and reversed, both by * and between

@@ -1,12 +1,12 @@
 -- Groups over fitted plates, and groups made by giving each plate a sign. Assumes nothing.
-use Rattle.std.proofs.Common.{◌≡◌, ℕ, ◌<◌, ◌≤◌, Bool, true, false, ◌&&◌, ◌||◌, eqb, ltb, ◌⊎◌, List, [], ◌∷◌, ◌++◌, is_some, Some, None, Option, sym, refl, ap, ◌∙◌, inl, inr, ⊎_elim, arith}
-use Rattle.std.proofs.lemmas.Bool.{and_parts, and_from, or_cases, or_parts, or_left, or_right, eq-eqb, ne_eqb, eqb-true, eqb-false, cond-true, cond-false, cond_both, cases_eq, cases_Bool, both_ways, false≢true}
+use Rattle.std.proofs.Common.{◌≡◌, ℕ, true, false, eqb, ltb, ◌⊎◌, List, [], ◌∷◌, ◌++◌, is_some, Some, None, Option, sym, refl, ap, ◌∙◌, inl, inr, ⊎_elim, arith}
+use Rattle.std.proofs.lemmas.Bool.{and_parts, and_from, or_cases, or_parts, eq-eqb, ne_eqb, eqb-true, eqb-false, cond-true, cond-false, cond_both, cases_eq, cases_Bool, both_ways, false≢true}
 use Rattle.groups.specs.declared.items.Item.{Item}
 use Rattle.groups.specs.declared.items.Sign.{Sign}
 use Rattle.groups.specs.Items.{rising, sign_at, names, insert}
 use Rattle.groups.specs.Rises.{climbing, item_if, items_on}
 use Rattle.groups.proofs.Climbing.{climbing_step}
-use Rattle.groups.proofs.Rising.{unnamed_below, same_signs, insert_rises}
+use Rattle.groups.proofs.Rising.{unnamed_below, same_signs}
 use Rattle.groups.proofs.Single.{item_rises, item_here, item_other}
 use Rattle.meaning.specs.Frames.{is_one_of, fitted_in, group_over}
 use Rattle.meaning.proofs.Ends.{End, ends}

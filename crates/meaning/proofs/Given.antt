@@ -1,13 +1,13 @@
 -- A group with another sign, or none, on one fitted plate. Assumes nothing.
-use Rattle.std.proofs.Common.{◌≡◌, ℕ, true, false, cond, eqb, List, Some, None, Option, sym, refl, ap, ◌∙◌}
-use Rattle.std.proofs.lemmas.Bool.{eq-eqb, ne_eqb, cond-true, cond-false, both_ways, false≢true}
+use Rattle.std.proofs.Common.{◌≡◌, ℕ, true, false, cond, eqb, List, None, Option, sym, refl, ap, ◌∙◌}
+use Rattle.std.proofs.lemmas.Bool.{eq-eqb, ne_eqb, cond-true, cond-false, both_ways}
 use Rattle.groups.specs.declared.items.Item.{Item}
 use Rattle.groups.specs.declared.items.Sign.{Sign}
 use Rattle.groups.specs.Items.{sign_at}
 use Rattle.groups.specs.Rises.{climbing, items_on}
 use Rattle.meaning.specs.Frames.{is_one_of, group_over}
 use Rattle.meaning.proofs.Ends.{ends, Within}
-use Rattle.meaning.proofs.Fitted.{over_parts, items_all, items_over, unfitted_none}
+use Rattle.meaning.proofs.Fitted.{over_parts, items_all, unfitted_none}
 use Rattle.meaning.proofs.Combining.{within_all}
 
 abbrev pub given_sign : List Item → ℕ → Option Sign → ℕ → Option Sign

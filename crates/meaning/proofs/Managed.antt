@@ -1,14 +1,14 @@
 -- What a crew admits: the levers that a group has with *, and those that a setting has between. Assumes nothing.
-use Rattle.std.proofs.Common.{◌≡◌, ℕ, Bool, true, false, cond, ◌&&◌, List, [], ◌∷◌, ◌++◌, map, Some, None, filter, Option, sym, refl, ap, ◌∙◌, append_assoc, arith}
-use Rattle.std.proofs.lemmas.Bool.{false≢true, cases_Bool}
+use Rattle.std.proofs.Common.{◌≡◌, ℕ, Bool, true, false, cond, List, [], ◌∷◌, ◌++◌, Some, None, filter, Option, sym, refl, ap, ◌∙◌, append_assoc, arith}
+use Rattle.std.proofs.lemmas.Bool.{false≢true}
 use Rattle.groups.specs.declared.items.Item.{Item}
 use Rattle.groups.specs.declared.items.Sign.{Sign}
 use Rattle.groups.specs.declared.items.Sign.TheVariants.{Plus, Minus, Star}
-use Rattle.groups.specs.Items.{rising, sign_at, covers}
+use Rattle.groups.specs.Items.{sign_at}
 use Rattle.groups.specs.Rises.{climbing, item_if, items_on}
 use Rattle.meaning.specs.Crews.{Admits, Lawful}
-use Rattle.meaning.specs.Frames.{Frame, Sound, group_over, is_star, starred, stars, manageable}
-use Rattle.meaning.proofs.Ends.{End, upper, lower, ends, Within, covers_has}
+use Rattle.meaning.specs.Frames.{Frame, Sound, group_over, starred, stars, manageable}
+use Rattle.meaning.proofs.Ends.{upper, lower, Within}
 use Rattle.meaning.proofs.Fitted.{items_again}
 
 pub starred_within : (o u : Option Sign) → Within o u → starred o ≡ true → starred u ≡ true

@@ -1,16 +1,15 @@
 -- What is read off the table of a group is read off it of each group that it covers. Assumes nothing.
-use Rattle.std.proofs.Common.{◌≡◌, ℕ, ◌<◌, ◌≤◌, Bool, true, false, cond, not, ◌&&◌, ◌||◌, eqb, ◌⊎◌, List, [], ◌∷◌, is_some, Some, None, Option, sym, refl, ap, ◌∙◌, subst, inl, inr, ⊎_elim, arith}
-use Rattle.std.specs.List.{ContainsAt as Has, AllByRecursion as All}
-use Rattle.std.proofs.lemmas.Bool.{and_parts, and_from, or_cases, or_left, or_right, eq-eqb, ne_eqb, cond-true, cond-false, cases_eq, cases_Bool, false≢true, not-true}
+use Rattle.std.proofs.Common.{◌≡◌, ℕ, ◌<◌, ◌≤◌, true, false, not, ◌&&◌, eqb, ◌⊎◌, List, [], ◌∷◌, is_some, Some, None, Option, sym, refl, ap, ◌∙◌, inl, inr, ⊎_elim, arith}
+use Rattle.std.specs.List.{ContainsAt as Has, AllByRecursion}
+use Rattle.std.proofs.lemmas.Bool.{and_parts, and_from, or_cases, or_left, or_right, eq-eqb, ne_eqb, cond-true, cond-false, cases_Bool, false≢true, not-true}
 use Rattle.groups.specs.declared.items.Item.{Item}
 use Rattle.groups.specs.declared.items.Sign.{Sign}
-use Rattle.groups.specs.declared.items.Sign.TheVariants.{Plus, Minus, Star}
 use Rattle.groups.specs.Items.{rising, sign_at, names, insert, sits, covers}
 use Rattle.groups.proofs.Rising.{insert_rises, insert_sign}
 use Rattle.meaning.specs.Frames.{group_over}
 use Rattle.meaning.specs.Tables.{covered_by}
 use Rattle.meaning.specs.Laws.{opposite, covered_with, settled, all_settled, read_off}
-use Rattle.meaning.proofs.Ends.{ends, upper, lower, Within, sits_within, within_sits, covers_has, has_covers}
+use Rattle.meaning.proofs.Ends.{ends, Within, sits_within, within_sits, covers_has, has_covers}
 use Rattle.meaning.proofs.Combining.{within_all}
 use Rattle.meaning.proofs.Covered.{covered_trans}
 use Rattle.meaning.proofs.Fitted.{over_parts, unnamed_none}
@@ -46,7 +45,7 @@ module _ (j : Item) (g : List Item) (n : sign_at g j.plate ≡ None) where
 only_opposite : (s u v : Sign) → opposite s ≡ Some u → sits s (Some v) ≡ false → v ≡ u
 only_opposite s u v e h = grind arith
 
-module _ (ps : List ℕ) (t : List (List Item)) (over : All (λ g. group_over ps g ≡ true) t) (l : List Item) (rises : rising 0 l ≡ true) (x h : List Item) (ox : group_over ps x ≡ true) (oh : group_over ps h ≡ true) (c : covers x h ≡ true) where
+module _ (ps : List ℕ) (t : List (List Item)) (over : AllByRecursion (λ g. group_over ps g ≡ true) t) (l : List Item) (rises : rising 0 l ≡ true) (x h : List Item) (ox : group_over ps x ≡ true) (oh : group_over ps h ≡ true) (c : covers x h ≡ true) where
   item_more : (i : Item) → Has l i → settled t x i ≡ true → (covered_by t h ≡ true) ⊎ (settled t h i ≡ true)
   item_more i m k =
       ⊎_elim

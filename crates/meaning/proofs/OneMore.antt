@@ -1,21 +1,20 @@
 -- One more line: what it makes forbidden can be read off the table of the lines so far. Assumes nothing.
-use Rattle.std.proofs.Common.{◌≡◌, ℕ, ◌<◌, ◌≤◌, Bool, true, false, cond, not, ◌&&◌, ◌||◌, eqb, ltb, ◌⊎◌, List, [], ◌∷◌, ◌++◌, is_some, Some, None, Decides, Option, sym, refl, ap, ◌∙◌, subst, inl, inr, ⊎_elim, arith}
-use Rattle.std.specs.List.{ContainsAt as Has, AllByRecursion as All}
+use Rattle.std.proofs.Common.{◌≡◌, ℕ, ◌<◌, ◌≤◌, Bool, true, false, not, ◌&&◌, ◌||◌, eqb, ltb, ◌⊎◌, List, [], ◌∷◌, ◌++◌, is_some, Some, None, Option, sym, refl, ap, ◌∙◌, subst, inl, inr, ⊎_elim, arith}
+use Rattle.std.specs.List.{ContainsAt as Has}
 use Rattle.std.proofs.ByRecursion.{all-has, All-push}
-use Rattle.std.proofs.lemmas.Bool.{and_parts, and_cases, and_from, or_cases, or_left, or_right, eq-eqb, ne_eqb, cond-true, cond-false, cond_both, cases_eq, cases_Bool, both_ways, not-true, not_from_false, false≢true}
+use Rattle.std.proofs.lemmas.Bool.{and_parts, and_cases, and_from, or_cases, or_left, or_right, eq-eqb, cond-true, cond_both, cases_Bool, both_ways, false≢true}
 use Rattle.groups.specs.declared.items.Item.{Item}
 use Rattle.groups.specs.declared.items.Sign.{Sign}
-use Rattle.groups.specs.declared.items.Sign.TheVariants.{Plus, Minus, Star}
-use Rattle.groups.specs.Items.{rising, sign_at, names, insert, sits, covers}
+use Rattle.groups.specs.Items.{rising, sign_at, names, insert, sits}
 use Rattle.groups.proofs.Rising.{rising_step, insert_rises, insert_sign}
-use Rattle.meaning.specs.States.{State, normal, reversed, between, holds, Setting, shows, shows_any}
-use Rattle.meaning.specs.Frames.{Frame, Sound, is_one_of, fitted_in, group_over, is_star, manageable, Forbidden, Shortest, starred}
+use Rattle.meaning.specs.States.{State, holds, Setting, shows, shows_any}
+use Rattle.meaning.specs.Frames.{Frame, Sound, is_one_of, fitted_in, group_over, manageable, Shortest, starred}
 use Rattle.meaning.specs.Tables.{IsTable, covered_by}
 use Rattle.meaning.specs.Laws.{Excluded, with_line, opposite, covered_with, settled, all_settled, read_off, OneMoreLine}
 use Rattle.meaning.specs.Shown.{sign_for}
 use Rattle.meaning.proofs.Ends.{upper, lower, Within, shows_has}
-use Rattle.meaning.proofs.Fitted.{over_parts, insert_fitted, unnamed_none}
-use Rattle.meaning.proofs.Covered.{Cover, covered_cover}
+use Rattle.meaning.proofs.Fitted.{over_parts, insert_fitted}
+use Rattle.meaning.proofs.Covered.{covered_cover}
 use Rattle.meaning.proofs.Cuts.{shows_append}
 use Rattle.meaning.proofs.Managed.{manageable_stars}
 use Rattle.meaning.proofs.Members.{has_none, has_first, has_later, has_cases}

@@ -1,17 +1,16 @@
 -- Tables of frames with no lines, with no possible setting, and with other levers. Assumes nothing.
-use Rattle.std.proofs.Common.{◌≡◌, ℕ, Bool, true, false, cond, ◌&&◌, ◌||◌, eqb, ◌⊎◌, List, [], ◌∷◌, is_some, Some, None, Option, sym, refl, ap, ◌∙◌, subst, inl, inr, ⊎_elim}
-use Rattle.std.specs.List.{ContainsAt as Has, AllByRecursion as All}
+use Rattle.std.proofs.Common.{◌≡◌, ℕ, Bool, true, false, ◌&&◌, ◌||◌, eqb, List, [], ◌∷◌, is_some, Some, None, Option, sym, refl, ap, ◌∙◌, subst, ⊎_elim}
+use Rattle.std.specs.List.{ContainsAt as Has, AllByRecursion}
 use Rattle.std.proofs.ByRecursion.{All-weaker}
-use Rattle.std.proofs.lemmas.Bool.{and_parts, and_from, or_cases, or_parts, or_left, or_right, eq-eqb, ne_eqb, cond-true, cond-false, cases_eq, cases_Bool, both_ways, false≢true}
+use Rattle.std.proofs.lemmas.Bool.{and_from, or_cases, or_parts, eq-eqb, ne_eqb, cond-true, cond-false, cases_eq, cases_Bool, both_ways, false≢true}
 use Rattle.groups.specs.declared.items.Item.{Item}
 use Rattle.groups.specs.declared.items.Sign.{Sign}
 use Rattle.groups.specs.declared.items.Sign.TheVariants.{Plus, Minus, Star}
-use Rattle.groups.specs.Items.{rising, sign_at, names, covers}
+use Rattle.groups.specs.Items.{sign_at, names, covers}
 use Rattle.groups.specs.Rises.{climbing}
-use Rattle.meaning.specs.States.{State, normal, reversed, between, holds, Setting, shows, shows_any}
-use Rattle.meaning.specs.Frames.{Frame, Sound, is_one_of, fitted_in, group_over, manageable, possible, Forbidden, Shortest}
-use Rattle.meaning.specs.Tables.{IsTable}
-use Rattle.meaning.specs.Laws.{Excluded, NoLinesNoTable, NothingPossible, with_plates, OtherLevers}
+use Rattle.meaning.specs.States.{State, normal, between, holds, Setting, shows, shows_any}
+use Rattle.meaning.specs.Frames.{Frame, Sound, is_one_of, group_over, possible, Forbidden, Shortest}
+use Rattle.meaning.specs.Laws.{NoLinesNoTable, NothingPossible, with_plates, OtherLevers}
 use Rattle.meaning.proofs.Ends.{End, upper, lower, ends, Within, states_of, covers_has, has_covers, shows_has, has_shows}
 use Rattle.meaning.proofs.Fitted.{over_parts, items_over, fitted_names, names_fitted, has_named}
 use Rattle.meaning.proofs.Given.{given_sign, given, given_here, given_other, given_less}
@@ -64,7 +63,7 @@ abbrev any_names : List (List Item) → ℕ → Bool
 any_names [] p = false
 any_names (l ∷ lines) p = names l p || any_names lines p
 
-any_fitted : (ps : List ℕ) (lines : List (List Item)) → All (λ l. group_over ps l ≡ true) lines → (p : ℕ) → any_names lines p ≡ true → is_one_of ps p ≡ true
+any_fitted : (ps : List ℕ) (lines : List (List Item)) → AllByRecursion (λ l. group_over ps l ≡ true) lines → (p : ℕ) → any_names lines p ≡ true → is_one_of ps p ≡ true
 any_fitted ps [] over p h = absurd (false≢true h)
 any_fitted ps (l ∷ lines) over p h =
     ⊎_elim

@@ -1,18 +1,18 @@
 -- A setting rests wherever a group lets it: so a manageable group is forbidden just when each setting that shows it shows
 -- a line. Assumes nothing.
-use Rattle.std.proofs.Common.{◌≡◌, ℕ, Bool, true, false, not, ◌&&◌, ◌||◌, ◌⊎◌, ◌↔◌, List, [], ◌∷◌, Some, None, filter, Option, sym, refl, ap, ◌∙◌, inl, inr, ⊎_elim, arith}
-use Rattle.std.specs.List.{AllByRecursion as All}
-use Rattle.std.proofs.lemmas.Bool.{and_parts, and_from, or_cases, or_left, or_right, not-true, not_from_false, not_from_true, cases_Bool, both_ways}
+use Rattle.std.proofs.Common.{◌≡◌, ℕ, true, not, List, [], ◌∷◌, Some, None, Option, sym, ap, ◌∙◌, ⊎_elim, arith}
+use Rattle.std.specs.List.{AllByRecursion}
+use Rattle.std.proofs.lemmas.Bool.{and_parts, and_from, or_cases, or_left, or_right, not-true, not_from_false, cases_Bool, both_ways}
 use Rattle.groups.specs.declared.items.Item.{Item}
 use Rattle.groups.specs.declared.items.Sign.{Sign}
 use Rattle.groups.specs.declared.items.Sign.TheVariants.{Plus, Minus, Star}
 use Rattle.groups.specs.Items.{rising, sign_at, covers}
 use Rattle.meaning.specs.States.{State, normal, reversed, between, holds, Setting, shows, shows_any}
-use Rattle.meaning.specs.Frames.{Frame, Sound, group_over, moving, stars, manageable, possible, Forbidden, starred}
+use Rattle.meaning.specs.Frames.{Frame, Sound, group_over, moving, stars, manageable, Forbidden, starred}
 use Rattle.meaning.specs.Laws.{Excluded, ForbiddenIsExcluded}
 use Rattle.meaning.specs.Shown.{sign_for}
-use Rattle.meaning.proofs.Ends.{End, ends, Within, states_of, shows_has, has_shows, shows_covered}
-use Rattle.meaning.proofs.Fitted.{Over, over_parts}
+use Rattle.meaning.proofs.Ends.{Within, states_of, shows_has, has_shows, shows_covered}
+use Rattle.meaning.proofs.Fitted.{over_parts}
 use Rattle.meaning.proofs.Managed.{stars_over, kept_same}
 
 -- each end of the setting s is one of t
@@ -23,7 +23,7 @@ Below s t = (p : ℕ) → Within (states_of s p) (states_of t p)
 pub shows_less : (s t : Setting) (g : List Item) → rising 0 g ≡ true → Below s t → shows s g ≡ true → shows t g ≡ true
 shows_less s t g r b v = has_shows t g r (λ p e q. b p e (shows_has s g v p e q))
 
-pub any_less : (ps : List ℕ) (s t : Setting) (lines : List (List Item)) → All (λ l. group_over ps l ≡ true) lines → Below s t → shows_any s lines ≡ true → shows_any t lines ≡ true
+pub any_less : (ps : List ℕ) (s t : Setting) (lines : List (List Item)) → AllByRecursion (λ l. group_over ps l ≡ true) lines → Below s t → shows_any s lines ≡ true → shows_any t lines ≡ true
 any_less ps s t [] o b v = v
 any_less ps s t (l ∷ lines) o b v =
     ⊎_elim

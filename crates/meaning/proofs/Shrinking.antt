@@ -1,14 +1,11 @@
 -- A forbidden group can be shortened, one end after the other, to a shortest one: so the table covers it. Assumes nothing.
-use Rattle.std.proofs.Common.{◌≡◌, ℕ, Bool, true, false, ◌&&◌, ◌||◌, eqb, ◌⊎◌, List, [], ◌∷◌, Some, None, Option, sym, refl, ap, ◌∙◌, subst, inl, inr, ⊎_elim, arith}
-use Rattle.std.specs.List.{ContainsAt as Has, AllByRecursion as All}
-use Rattle.std.proofs.lemmas.Bool.{or_cases, or_left, or_right, eq-eqb, eqb-true, cases_eq, cases_Bool, both_ways, false≢true}
+use Rattle.std.proofs.Common.{◌≡◌, ℕ, true, false, eqb, List, [], ◌∷◌, Some, None, Option, sym, refl, ap, ◌∙◌, subst, ⊎_elim, arith}
+use Rattle.std.proofs.lemmas.Bool.{or_cases, or_left, or_right, eq-eqb, eqb-true, cases_Bool, both_ways, false≢true}
 use Rattle.groups.specs.declared.items.Item.{Item}
 use Rattle.groups.specs.declared.items.Sign.{Sign}
 use Rattle.groups.specs.declared.items.Sign.TheVariants.{Plus, Minus, Star}
-use Rattle.groups.specs.Items.{rising, sign_at, covers}
-use Rattle.groups.specs.Rises.{climbing}
+use Rattle.groups.specs.Items.{sign_at, covers}
 use Rattle.meaning.specs.Frames.{Frame, Sound, is_one_of, group_over, Forbidden, Shortest}
-use Rattle.meaning.specs.Tables.{IsTable, covered_by}
 use Rattle.meaning.specs.Laws.{Excluded, TableCovers}
 use Rattle.meaning.proofs.Ends.{End, upper, lower, ends, Within, covers_has, has_covers, covers_same, covers_trans, covers_itself}
 use Rattle.meaning.proofs.Fitted.{over_parts, items_over, fitted_names, has_named}

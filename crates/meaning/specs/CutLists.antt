@@ -1,5 +1,5 @@
 -- The cut list of a frame: the lines that the fitters file. Assumes nothing.
-use Rattle.std.specs.Prelude.{◌≡◌, Bool, true, false, List, [], ◌∷◌, ◌++◌}
+use Rattle.std.specs.Prelude.{◌≡◌, true, false, List, [], ◌∷◌, ◌++◌}
 use Rattle.groups.specs.declared.items.Item.{Item}
 use Rattle.meaning.specs.States.{Setting, shows}
 use Rattle.meaning.specs.Frames.{Frame, permits}

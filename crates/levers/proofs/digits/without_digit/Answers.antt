@@ -6,11 +6,11 @@ use Rattle.levers.proofs.digits.without_digit.Goals.{Then-digit}
 low : (c : Then-digit) → c.args.place < 32
 low c = in_low c.args.bits c.args.place (omega arith) (sym c.if-digit.ensures)
 
-pub overflow-cast-result : goal.overflow-cast-result
-overflow-cast-result c = let h = low c in omega arith
+pub overflow_cast-result : goal.overflow_cast-result
+overflow_cast-result c = let h = low c in omega arith
 
-pub overflow-shl-result : goal.overflow-shl-result
-overflow-shl-result c = low c
+pub overflow_shl-result : goal.overflow_shl-result
+overflow_shl-result c = low c
 
 pub returns-then-digit : goal.returns-then-digit
 returns-then-digit c k =

@@ -1,6 +1,6 @@
 -- What the crew's answer and the search tell of one line. Assumes nothing.
 use Rattle.std.proofs.Common.{◌≡◌, ℕ, zero, suc, ◌<◌, Bool, true, false, not, eqb, List, [], ◌∷◌, length, get_or, is_some, Some, sym, refl, ap, ◌∙◌, ⊎_elim, arith}
-use Rattle.std.specs.List.{AllByRecursion as All}
+use Rattle.std.specs.List.{AllByRecursion}
 use Rattle.std.proofs.lemmas.Bool.{and_parts, and_from, or_left, or_right, not-true, not_from_false, eq-eqb, cases_Bool, both_ways, false≢true}
 use Rattle.groups.specs.declared.items.Item.{Item}
 use Rattle.groups.specs.declared.items.Sign.TheVariants.{Star}
@@ -42,7 +42,7 @@ module _ (ps : List ℕ) (climbs : climbing 0 ps ≡ true) where
       (λ none. absurd (false≢true (sym (ap is_some (spelled_none ps g p none)) ∙ n)))
       (place_cases ps p)))
 
-  all_over_lem : (gs : List Placed) → All (λ l. group_over ps l ≡ true) (spell_all ps gs)
+  all_over_lem : (gs : List Placed) → AllByRecursion (λ l. group_over ps l ≡ true) (spell_all ps gs)
   all_over_lem [] = tt
   all_over_lem (g ∷ gs) = (spelled_over g, all_over_lem gs)
 

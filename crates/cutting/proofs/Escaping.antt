@@ -1,6 +1,6 @@
 -- What a judgement of the lines tells of the settings that show the group, over any frame. Assumes nothing.
 use Rattle.std.proofs.Common.{◌≡◌, ℕ, zero, suc, ◌<◌, ◌≤◌, Bool, true, false, cond, ◌&&◌, eqb, ltb, ◌⊎◌, List, [], ◌∷◌, map, length, get_or, is_some, Some, None, Option, sym, refl, ap, ◌∙◌, subst, inl, inr, ⊎_elim, arith}
-use Rattle.std.specs.List.{ContainsAt as Has, AllByRecursion as All}
+use Rattle.std.specs.List.{ContainsAt as Has, AllByRecursion}
 use Rattle.std.proofs.lemmas.List.{length-map, get_or-map}
 use Rattle.std.proofs.lemmas.Bool.{and_from, and_left, or_from, eq-eqb, ne_eqb, lt-ltb, cond-true, cond-false, cases_Bool, cases_eq, false≢true}
 use Rattle.groups.specs.declared.items.Item.{Item}
@@ -80,12 +80,12 @@ module _ (ps : List ℕ) (climbs : climbing 0 ps ≡ true) where
       (λ v. v)
       (cases_Bool (shows (resting set) (spell ps line)))
 
-  all_hidden : (lines : List Placed) (set : Placed) → All (λ l. FailsAt (length ps) l set) lines → shows_any (resting set) (spell_all ps lines) ≡ false
+  all_hidden : (lines : List Placed) (set : Placed) → AllByRecursion (λ l. FailsAt (length ps) l set) lines → shows_any (resting set) (spell_all ps lines) ≡ false
   all_hidden [] set a = refl
   all_hidden (l ∷ lines) set a = or_from _ _ (fails_hidden l set a.0) (all_hidden lines set a.1)
 
   -- no line is shown where the levers that are left free rest
-  pub dead_escape : (lines : List Placed) (set : Placed) → All (λ l. FailsAt (length ps) l set) lines → Escape (spell_all ps lines) (spell ps set)
+  pub dead_escape : (lines : List Placed) (set : Placed) → AllByRecursion (λ l. FailsAt (length ps) l set) lines → Escape (spell_all ps lines) (spell ps set)
   dead_escape lines set a =
       record {
         setting = resting set;
@@ -141,7 +141,7 @@ surveyed_judged n lines set Shown m =
     }
 surveyed_judged n lines set Clear a =
     record {
-      over = λ ps climbs l. record { yes = λ _. dead_escape ps climbs lines set (subst (λ k. All (λ x. FailsAt k x set) lines) (sym l) a); none = λ t. absurd (false≢true (sym t)) };
+      over = λ ps climbs l. record { yes = λ _. dead_escape ps climbs lines set (subst (λ k. AllByRecursion (λ x. FailsAt k x set) lines) (sym l) a); none = λ t. absurd (false≢true (sym t)) };
     }
 surveyed_judged n lines set (Lever k free) o = o
 

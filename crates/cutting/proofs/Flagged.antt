@@ -1,6 +1,6 @@
 -- The lines whose flag is on, one line after the other. Assumes nothing.
 use Rattle.std.proofs.Common.{◌≡◌, ℕ, zero, suc, ◌+◌, ◌<◌, ◌≤◌, Bool, true, false, cond, ltb, List, [], ◌∷◌, ◌++◌, length, get_or, take, drop, sym, refl, ap, ◌∙◌, subst, add-one, arith}
-use Rattle.std.specs.List.{AllByRecursion as All}
+use Rattle.std.specs.List.{AllByRecursion}
 use Rattle.std.proofs.lemmas.List.{append-nil, length-take-le}
 use Rattle.std.proofs.lemmas.Bool.{lt-ltb, cond-true, cond-false, false≢true}
 use Rattle.placed.specs.declared.Placed.{Placed}
@@ -28,14 +28,14 @@ pub off_here : (flags : List Bool) (ls : List Placed) (i : ℕ) → i < length l
 off_here flags ls i h off = on_more flags ls i h ∙ ap (λ xs. on_lines flags (take i ls) ++ xs) (cond-false _ _ _ off) ∙ append-nil (on_lines flags (take i ls))
 
 -- what holds of each line holds of those that are on
-all_on : (P : Placed → Type 0) (flags : List Bool) (ls : List Placed) → All P ls → All P (on_lines flags ls)
+all_on : (P : Placed → Type 0) (flags : List Bool) (ls : List Placed) → AllByRecursion P ls → AllByRecursion P (on_lines flags ls)
 all_on P flags [] a = tt
 all_on P [] (l ∷ ls) a = tt
 all_on P (true ∷ flags) (l ∷ ls) a = (a.0, all_on P flags ls a.1)
 all_on P (false ∷ flags) (l ∷ ls) a = all_on P flags ls a.1
 
-pub kept_on : (P : Placed → Type 0) (flags : List Bool) (lines all row : List Placed) → all ≡ lines → row ≡ on_lines flags all → All P lines → All P row
-kept_on P flags lines all row e q a = subst (All P) (sym q) (all_on P flags all (subst (All P) (sym e) a))
+pub kept_on : (P : Placed → Type 0) (flags : List Bool) (lines all row : List Placed) → all ≡ lines → row ≡ on_lines flags all → AllByRecursion P lines → AllByRecursion P row
+kept_on P flags lines all row e q a = subst (AllByRecursion P) (sym q) (all_on P flags all (subst (AllByRecursion P) (sym e) a))
 
 -- no more lines are on than there are
 on_few : (flags : List Bool) (ls : List Placed) → length (on_lines flags ls) ≤ length ls

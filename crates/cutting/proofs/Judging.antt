@@ -1,6 +1,6 @@
 -- The lines weighed one after the other. Assumes nothing.
 use Rattle.std.proofs.Common.{◌≡◌, ℕ, ◌+◌, ◌<◌, Bool, true, false, ltb, List, [], ◌∷◌, ◌++◌, length, get_or, take, drop, sym, subst}
-use Rattle.std.specs.List.{ContainsAt as Has, AllByRecursion as All}
+use Rattle.std.specs.List.{ContainsAt as Has, AllByRecursion}
 use Rattle.std.proofs.ByRecursion.{All-push, has_append_left, has_push}
 use Rattle.std.proofs.lemmas.Bool.{cond_both}
 use Rattle.placed.specs.declared.Placed.{Placed}
@@ -19,7 +19,7 @@ pub record Met (n : ℕ) (lines : List Placed) (set : Placed) : Type 0 where
 -- what is known of the lines so far: one is met; all are dead; or a free lever of one that is live
 abbrev pub Surveyed : ℕ → List Placed → Placed → Next → Type 0
 Surveyed n lines set Shown = Met n lines set
-Surveyed n lines set Clear = All (λ l. FailsAt n l set) lines
+Surveyed n lines set Clear = AllByRecursion (λ l. FailsAt n l set) lines
 Surveyed n lines set (Lever k free) = FreeAt n set k
 
 -- a line that is met among the first ones is met among all

@@ -1,5 +1,5 @@
 -- The refusals by number and layer, and the one record that every fault is. Assumes nothing.
-use Rattle.std.specs.Prelude.{cond, ℕ, leb}
+use Rattle.std.specs.Prelude.{cond, ℕ, nat_le}
 use Rattle.faults.specs.declared.Refusal.{Refusal}
 use Rattle.faults.specs.declared.Refusal.TheVariants.{Word, Number, Mark, Repeated, Ninth, NotAbove, FrameFull, NotFitted, Named, InForce, LinesFull, NoSetting, TableFull, NotInForce, Unmanageable, ShortBuffer}
 use Rattle.faults.specs.declared.Layer.{Layer}
@@ -34,7 +34,7 @@ number_of ShortBuffer = 16
 
 -- the layer that refuses with a number: the text 1 to 5, the frame 6 to 9, the sheet 10 to 15, the journal 16
 abbrev pub layer_of : ℕ → Layer
-layer_of n = cond (leb n 5) Text (cond (leb n 9) Frame (cond (leb n 15) Sheet Journal))
+layer_of n = cond (nat_le n 5) Text (cond (nat_le n 9) Frame (cond (nat_le n 15) Sheet Journal))
 
 -- the record of a refusal at a place
 abbrev pub fault_of : Refusal → Place → Fault

@@ -1,5 +1,5 @@
 -- Groups as lists of items: what a sign says of a plate, covering and combining. Assumes nothing.
-use Rattle.std.specs.Prelude.{◌≡◌, ℕ, Bool, true, false, cond, ◌&&◌, ltb, List, [], ◌∷◌, is_some, Some, None, Option, ◌==◌, ◌≢◌, nat_le, nat_lt}
+use Rattle.std.specs.Prelude.{◌≡◌, ℕ, Bool, true, false, cond, ◌&&◌, List, [], ◌∷◌, is_some, Some, None, Option, ◌==◌, ◌≢◌, nat_le, nat_lt}
 use Rattle.std.specs.List.{prefix_len}
 use Rattle.groups.specs.declared.items.Item.{Item}
 use Rattle.groups.specs.declared.items.Sign.{Sign}
@@ -30,7 +30,7 @@ insert x (i ∷ is) = cond (nat_lt x.plate i.plate) (x ∷ i ∷ is) (i ∷ inse
 
 -- how many items at the front have a plate below p
 abbrev pub place_of : ℕ → List Item → ℕ
-place_of p is = prefix_len (λ i. ltb i.plate p) is
+place_of p is = prefix_len (λ i. nat_lt i.plate p) is
 
 -- where one group has sign s, another that it covers has the same sign or *
 abbrev pub sits : Sign → Option Sign → Bool

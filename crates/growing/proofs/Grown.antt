@@ -1,6 +1,6 @@
 -- Groups gathered to the end, with those of the table, are all that is forbidden with one more line. Assumes nothing.
 use Rattle.std.proofs.Common.{◌≡◌, ℕ, zero, suc, ◌+◌, ◌<◌, ◌≤◌, Bool, true, false, cond, not, ◌&&◌, ◌||◌, ◌⊎◌, List, [], ◌∷◌, ◌++◌, map, length, get_or, Some, None, Decides, Option, sym, refl, ap, ◌∙◌, subst, inl, inr, ⊎_elim, arith}
-use Rattle.std.specs.List.{ContainsAt as Has, AllByRecursion as All}
+use Rattle.std.specs.List.{ContainsAt as Has, AllByRecursion}
 use Rattle.std.proofs.ByRecursion.{all-has, all_has_itself, All-weaker, All-get_or, All-append, has_push_cases, has_append_left, has_append_right}
 use Rattle.std.proofs.lemmas.Bool.{and_from, or_cases, or_left, or_right, cases_Bool, cases_order, both_ways, false≢true, not_from_false}
 use Rattle.groups.specs.declared.items.Item.{Item}
@@ -259,7 +259,7 @@ module _ (a : Asked) (lines : List (List Item)) (ready : Ready a) where
           back h k u (inl z) = subst (λ y. covers y h ≡ true) ((all-has (Shortest frame) table_items c table.only m).alone u.group (table_forbidden u.group z) (covers_trans u.group h c (rises_of u.group u.member) u.over k)) u.over
           back h k u (inr z) = absurd (both_ways (covered_by (spell_all a.plates new) c) n (cover_covered (spell_all a.plates new) c u.group z (covers_trans u.group h c (rises_of u.group u.member) u.over k)))
 
-      pub merged_shortest : (r : List (List Item)) → Merged r → All (Shortest grown_frame) r
+      pub merged_shortest : (r : List (List Item)) → Merged r → AllByRecursion (Shortest grown_frame) r
       merged_shortest r m = All-weaker (Has r) (Shortest grown_frame) (λ c h. ⊎_elim (λ o. old_shortest c o.0 o.1) (new_shortest c) (m.from c h)) r (all_has_itself r)
 
       pub merged_table : (r : List (List Item)) → Merged r → IsTable grown_frame r

@@ -1,6 +1,6 @@
 -- Two groups combined, lever by lever. Assumes nothing.
 use Rattle.std.proofs.Common.{◌≡◌, ℕ, ◌+◌, ◌<◌, ◌≤◌, Bool, true, false, cond, ◌||◌, eqb, ◌⊎◌, List, [], ◌∷◌, ◌++◌, length, get_or, take, Some, None, Option, sym, refl, ap, ◌∙◌, subst, inl, inr, ⊎_elim, arith}
-use Rattle.std.specs.List.{AllByRecursion as All}
+use Rattle.std.specs.List.{AllByRecursion}
 use Rattle.std.proofs.ByRecursion.{All-weaker, All-more, All-get_or}
 use Rattle.std.proofs.lemmas.List.{append_assoc, append-nil, get_or_append_left, get_or_default, length-append}
 use Rattle.std.proofs.lemmas.Bool.{cases_eq, cases_lt, cond-true, cond-false, eq-eqb, ne_eqb, false≢true, both_ways}
@@ -12,7 +12,7 @@ use Rattle.groups.specs.Rises.{climbing}
 use Rattle.groups.proofs.Climbing.{place_cases}
 use Rattle.groups.proofs.Rising.{same_signs}
 use Rattle.placed.specs.declared.Placed.{Placed}
-use Rattle.placed.specs.Signs.{Within, sign_on, opposed}
+use Rattle.placed.specs.Signs.{Within, sign_on, opposed_signs}
 use Rattle.placed.specs.Spelling.{spell}
 use Rattle.placed.proofs.Spelled.{spelled_sign, spelled_none, joined_over}
 use Rattle.growing.specs.Gathered.{Asked, Fresh, Gathered, Met, Joined, Paired, PairedAt, PairedOne, ClosedBelow, Grew, Overfull, Step}
@@ -55,7 +55,7 @@ joined_one x g h c d (inr k) (inl m) = absurd (plus_minus (sym m.plus ∙ k.minu
     plus_minus e = let z : ◌≡◌ {A = ℕ} 0 1 = cc in omega arith
 joined_one x g h c d (inr k) (inr m) = same_signs 0 c d k.spelled m.spelled (λ p. ⊎_elim (λ e. ap (sign_at c) e ∙ k.dropped ∙ sym m.dropped ∙ ap (sign_at d) (sym e)) (λ ne. k.others p ne ∙ sym (m.others p ne)) (cases_eq p x))
 
-opposed_either : (o u : Option Sign) → opposed o u ≡ true → ((o ≡ Some Plus) × (u ≡ Some Minus)) ⊎ ((o ≡ Some Minus) × (u ≡ Some Plus))
+opposed_either : (o u : Option Sign) → opposed_signs o u ≡ true → ((o ≡ Some Plus) × (u ≡ Some Minus)) ⊎ ((o ≡ Some Minus) × (u ≡ Some Plus))
 opposed_either None u h = absurd (false≢true h)
 opposed_either (Some Plus) None h = absurd (false≢true h)
 opposed_either (Some Minus) None h = absurd (false≢true h)
@@ -72,13 +72,13 @@ opposed_either (Some Star) (Some Star) h = absurd (false≢true h)
 
 module _ (ps : List ℕ) (g h : Placed) (k : ℕ) (climbs : climbing 0 ps ≡ true) (l : k < length ps) where
   -- groups that have a combination on the lever at a place oppose each other there
-  pub joined_opposed : (c : List Item) → Joined (get_or ps k 0) (spell ps g) (spell ps h) c → opposed (sign_on g k) (sign_on h k) ≡ true
-  joined_opposed c (inl m) = (λ i. opposed ((sym (spelled_sign ps g k climbs l) ∙ m.plus) i) ((sym (spelled_sign ps h k climbs l) ∙ m.minus) i))
-  joined_opposed c (inr m) = (λ i. opposed ((sym (spelled_sign ps g k climbs l) ∙ m.minus) i) ((sym (spelled_sign ps h k climbs l) ∙ m.plus) i))
+  pub joined_opposed : (c : List Item) → Joined (get_or ps k 0) (spell ps g) (spell ps h) c → opposed_signs (sign_on g k) (sign_on h k) ≡ true
+  joined_opposed c (inl m) = (λ i. opposed_signs ((sym (spelled_sign ps g k climbs l) ∙ m.plus) i) ((sym (spelled_sign ps h k climbs l) ∙ m.minus) i))
+  joined_opposed c (inr m) = (λ i. opposed_signs ((sym (spelled_sign ps g k climbs l) ∙ m.minus) i) ((sym (spelled_sign ps h k climbs l) ∙ m.plus) i))
 
   module _ (j : Placed) (signs : (i : ℕ) → sign_on j i ≡ cond (eqb i k) None (joint (sign_on g i) (sign_on h i))) where
     -- where they oppose each other, both together without the lever are the combination
-    pub joined_is : opposed (sign_on g k) (sign_on h k) ≡ true → Joined (get_or ps k 0) (spell ps g) (spell ps h) (spell ps j)
+    pub joined_is : opposed_signs (sign_on g k) (sign_on h k) ≡ true → Joined (get_or ps k 0) (spell ps g) (spell ps h) (spell ps j)
     joined_is o =
         ⊎_elim
         (λ e. inl (joined_over ps g h j k climbs l signs (spelled_sign ps g k climbs l ∙ e.0) (spelled_sign ps h k climbs l ∙ e.1)))
@@ -92,7 +92,7 @@ module _ (ps : List ℕ) (g h : Placed) (k : ℕ) (climbs : climbing 0 ps ≡ tr
 pub met_joined : (a : Asked) (new : List Placed) (g h j : Placed) (k : ℕ) → Joined (get_or a.plates k 0) (spell a.plates g) (spell a.plates h) (spell a.plates j) → Met a new (spell a.plates j) → PairedAt a new g h k
 met_joined a new g h j k is m c joined = subst (Met a new) (joined_one (get_or a.plates k 0) (spell a.plates g) (spell a.plates h) (spell a.plates j) c is joined) m
 
--- ## All levers
+-- ## AllByRecursion levers
 
 -- the combinations on the levers at all places are all there are
 pub paired_all : (a : Asked) (new : List Placed) (g h : Placed) → ((k : ℕ) → k < length a.plates → PairedAt a new g h k) → Paired a new g h
@@ -143,11 +143,11 @@ paired_more a mid new g h k more below here j l =
 
 -- ## A group with a list of others
 
-pub all_grew : (a : Asked) (old new : List Placed) (g : Placed) (hs : List Placed) → Grew old new → All (Paired a old g) hs → All (Paired a new g) hs
+pub all_grew : (a : Asked) (old new : List Placed) (g : Placed) (hs : List Placed) → Grew old new → AllByRecursion (Paired a old g) hs → AllByRecursion (Paired a new g) hs
 all_grew a old new g hs more p = All-weaker (Paired a old g) (Paired a new g) (λ h. paired_grew a old new g h more) hs p
 
 -- one group of the table more
-pub table_more : (a : Asked) (mid new : List Placed) (g : Placed) (hs : List Placed) (i : ℕ) (d : Placed) → i < length hs → Grew mid new → All (Paired a mid g) (take i hs) → Paired a new g (get_or hs i d) → All (Paired a new g) (take (i + 1) hs)
+pub table_more : (a : Asked) (mid new : List Placed) (g : Placed) (hs : List Placed) (i : ℕ) (d : Placed) → i < length hs → Grew mid new → AllByRecursion (Paired a mid g) (take i hs) → Paired a new g (get_or hs i d) → AllByRecursion (Paired a new g) (take (i + 1) hs)
 table_more a mid new g hs i d l more below here = All-more (Paired a new g) hs i d l (all_grew a mid new g (take i hs) more below) here
 
 -- one new group more: those before it stand where they stood
@@ -171,7 +171,7 @@ read_within a xs new i e is g l = subst (λ gs. Within (length a.plates) (get_or
 pub one_grew : (a : Asked) (i : ℕ) (old new : List Placed) → Grew old new → i < length old → PairedOne a i old → PairedOne a i new
 one_grew a i old new more l p =
     record {
-      table = λ d. subst (λ z. All (Paired a new z) a.table) (sym (grew_at old new i d more l)) (all_grew a old new (get_or old i d) a.table more (p.table d));
+      table = λ d. subst (λ z. AllByRecursion (Paired a new z) a.table) (sym (grew_at old new i d more l)) (all_grew a old new (get_or old i d) a.table more (p.table d));
       before = λ d j m. subst (λ z. Paired a new z (get_or new j d)) (sym (grew_at old new i d more l)) (subst (Paired a new (get_or old i d)) (sym (grew_at old new j d more (omega arith))) (paired_grew a old new (get_or old i d) (get_or old j d) more (p.before d j m)));
     }
 

@@ -1,6 +1,6 @@
 -- A list of different elements is no longer than a list that has them all. Assumes nothing.
 use Rattle.std.proofs.Common.{◌≡◌, ℕ, zero, suc, ◌<◌, ◌≤◌, Bool, true, false, ◌⊎◌, List, [], ◌∷◌, length, get_or, sym, refl, ap, ◌∙◌, subst, inl, inr, ⊎_elim, arith}
-use Rattle.std.specs.List.{ContainsAt as Has, AllByRecursion as All}
+use Rattle.std.specs.List.{ContainsAt as Has, AllByRecursion}
 use Rattle.std.proofs.ByRecursion.{all-has, all_has_itself, All-map, All-weaker}
 use Rattle.std.proofs.lemmas.Bool.{and_parts, both_ways, false≢true}
 use Rattle.groups.specs.declared.items.Item.{Item}
@@ -45,10 +45,10 @@ removed_has (suc k) (z ∷ ys) y l h ne =
     (has_cases z y ys h)
 
 -- what holds of each element, with the element in the list
-with_itself : {X : Type 0} (P : X → Type 0) (xs : List X) → All P xs → All (λ y. P y × Has xs y) xs
+with_itself : {X : Type 0} (P : X → Type 0) (xs : List X) → AllByRecursion P xs → AllByRecursion (λ y. P y × Has xs y) xs
 with_itself P xs b = All-weaker (Has xs) (λ y. P y × Has xs y) (λ y m. (all-has P xs y b m, m)) xs (all_has_itself xs)
 
-pub no_longer : {X : Type 0} (xs ys : List X) → Different xs → All (Has ys) xs → length xs ≤ length ys
+pub no_longer : {X : Type 0} (xs ys : List X) → Different xs → AllByRecursion (Has ys) xs → length xs ≤ length ys
 no_longer [] ys d a = omega arith
 no_longer (x ∷ xs) ys d a =
     let h = a.0 in

@@ -1,6 +1,6 @@
 -- Growing as a whole: from what was gathered and merged to the answer. Assumes nothing.
 use Rattle.std.proofs.Common.{◌≡◌, ℕ, suc, ◌+◌, ◌<◌, ◌≤◌, Bool, true, false, ◌||◌, ◌⊎◌, List, [], ◌∷◌, ◌++◌, map, length, get_or, take, None, Ok, Err, sym, refl, ap, ◌∙◌, subst, inl, inr, ⊎_elim, arith}
-use Rattle.std.specs.List.{ContainsAt as Has, AllByRecursion as All}
+use Rattle.std.specs.List.{ContainsAt as Has, AllByRecursion}
 use Rattle.std.proofs.ByRecursion.{All-map, All-weaker, all_has_itself}
 use Rattle.std.proofs.lemmas.List.{take_all, length-map, length-append, length-take, get_or-take}
 use Rattle.groups.specs.declared.items.Item.{Item}
@@ -32,7 +32,7 @@ spell_empty ps g h = empty_from 0 ps g h
 
 module _ (a : Asked) (lines : List (List Item)) (ready : Ready a) (sound : Sound (frame a lines ready)) (table : IsTable (frame a lines ready) (table_items a lines ready)) where
   -- more than 512 groups that are all in the table
-  more_than : (t xs : List (List Item)) → IsTable (grown_frame a lines ready) t → Different xs → All (Shortest (grown_frame a lines ready)) xs → 512 < length xs → 512 < length t
+  more_than : (t xs : List (List Item)) → IsTable (grown_frame a lines ready) t → Different xs → AllByRecursion (Shortest (grown_frame a lines ready)) xs → 512 < length xs → 512 < length t
   more_than t xs is d s l =
       let n = no_longer xs t d (All-weaker (Shortest (grown_frame a lines ready)) (Has t) is.every xs s) in
       omega arith
@@ -65,7 +65,7 @@ module _ (a : Asked) (lines : List (List Item)) (ready : Ready a) (sound : Sound
         let in-front : length (take k new) ≤ k = omega (arith, length-take k new) in
         subst (Has (spell_all a.plates new)) (ap (spell a.plates) (sym (get_or-take k new r.place blank (omega arith))) ∙ r.is blank) (spelled_has a.plates new r.place blank (omega arith))
 
-    part_shortest : (k : ℕ) (r : List Placed) → MergedUpto k a.plates a.table new r → All (Shortest (grown_frame a lines ready)) (spell_all a.plates r)
+    part_shortest : (k : ℕ) (r : List Placed) → MergedUpto k a.plates a.table new r → AllByRecursion (Shortest (grown_frame a lines ready)) (spell_all a.plates r)
     part_shortest k r m =
         All-weaker (Has (spell_all a.plates r)) (Shortest (grown_frame a lines ready)) (λ c h. ⊎_elim (λ o. old_shortest a lines ready sound table new gathered complete c o.0 o.1) (λ t. new_shortest a lines ready sound table new gathered complete c (first_new k c t)) (m.from c h)) (spell_all a.plates r) (all_has_itself (spell_all a.plates r))
 

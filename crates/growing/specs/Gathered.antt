@@ -1,6 +1,6 @@
 -- The groups that one more line adds to a table, as they are gathered. Assumes nothing.
 use Rattle.std.specs.Prelude.{◌≡◌, ℕ, ◌<◌, ◌≤◌, Bool, true, false, not, ◌||◌, ◌⊎◌, List, [], ◌∷◌, ◌++◌, length, slice_index, slice_index_or}
-use Rattle.std.specs.List.{AllByRecursion as All}
+use Rattle.std.specs.List.{AllByRecursion}
 use Rattle.groups.specs.declared.items.Item.{Item}
 use Rattle.groups.specs.Items.{covers, Combination}
 use Rattle.groups.specs.Rises.{climbing}
@@ -41,11 +41,11 @@ pub record Fresh (a : Asked) (n : Placed) : Type 0 where
 -- no group is covered by one that stands before it
 abbrev pub Apart : List ℕ → List Placed → Type 0
 Apart ps [] = Unit {0}
-Apart ps (g ∷ gs) = All (λ h. covers (spell ps g) (spell ps h) ≡ false) gs × Apart ps gs
+Apart ps (g ∷ gs) = AllByRecursion (λ h. covers (spell ps g) (spell ps h) ≡ false) gs × Apart ps gs
 
 -- new groups, each once
 pub record Gathered (a : Asked) (new : List Placed) : Type 0 where
-  pub fresh : All (Fresh a) new
+  pub fresh : AllByRecursion (Fresh a) new
   pub apart : Apart a.plates new
 
 -- a group that the crew can manage and the table tells of is covered by the table or a new group
@@ -95,7 +95,7 @@ pub record Ready (a : Asked) : Type 0 where
 
 -- a new group is combined with each group of the table and with each new group before it
 pub record PairedOne (a : Asked) (i : ℕ) (new : List Placed) : Type 0 where
-  pub table : (d : Placed) → All (Paired a new (slice_index_or new i d)) a.table
+  pub table : (d : Placed) → AllByRecursion (Paired a new (slice_index_or new i d)) a.table
   pub before : (d : Placed) (j : ℕ) → j < i → Paired a new (slice_index_or new i d) (slice_index_or new j d)
 
 -- the first k new groups are combined so

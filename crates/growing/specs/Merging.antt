@@ -1,6 +1,6 @@
 -- The groups of a table that no new group covers, and the new groups, in order. Assumes nothing.
 use Rattle.std.specs.Prelude.{◌≡◌, ℕ, ◌<◌, ◌≤◌, Bool, true, false, not, ◌⊎◌, List, length, take, Some, None, filter, Option}
-use Rattle.std.specs.List.{ContainsAt as Has, AllByRecursion as All}
+use Rattle.std.specs.List.{ContainsAt as Has, AllByRecursion}
 use Rattle.groups.specs.declared.items.Item.{Item}
 use Rattle.groups.specs.Rises.{climbing}
 use Rattle.meaning.specs.Tables.{in_order, covered_by}
@@ -27,7 +27,7 @@ pub record Mergeable (ps : List ℕ) (table new : List Placed) : Type 0 where
   pub new_within : AllWithin (length ps) new
   pub order : in_order (spell_all ps table) ≡ true
   pub apart : Apart ps new
-  pub fresh : All (λ n. covered_by (spell_all ps table) (spell ps n) ≡ false) new
+  pub fresh : AllByRecursion (λ n. covered_by (spell_all ps table) (spell ps n) ≡ false) new
 
 -- the first k new groups are put among those of the table that no new group covers
 pub record MergedUpto (k : ℕ) (ps : List ℕ) (table new r : List Placed) : Type 0 where

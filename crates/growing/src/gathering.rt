@@ -1,6 +1,6 @@
 // Gathering the groups that one more line adds to a table: the line, and all combinations, each shortened.
 ghost use Rattle.std.specs.Prelude.{◌≡◌, ℕ, ◌<◌, true, false, length, slice_index_or};
-ghost use Rattle.std.specs.List.{AllByRecursion as All};
+ghost use Rattle.std.specs.List.{AllByRecursion};
 ghost use Rattle.placed.specs.Signs.{Within};
 ghost use Rattle.placed.specs.Spelling.{spell};
 ghost use Rattle.frames.specs.Fitted.{fitted};
@@ -89,7 +89,7 @@ fn pair_with_table<C: Crew>(
     requires ready { Ready (asked (C.Crew.admitted crew.now) (fitted plates.now) table.now line) }
     requires gathered { Gathered (asked (C.Crew.admitted crew.now) (fitted plates.now) table.now line) (groups_of new.old) }
     requires there { at < length (groups_of new.old) }
-    ensures { Step (asked (C.Crew.admitted crew.now) (fitted plates.now) table.now line) (groups_of new.old) (groups_of new.new) result (λ news. ((d : Placed) → All (Paired (asked (C.Crew.admitted crew.now) (fitted plates.now) table.now line) news (slice_index_or news at d)) table.now)) }
+    ensures { Step (asked (C.Crew.admitted crew.now) (fitted plates.now) table.now line) (groups_of new.old) (groups_of new.new) result (λ news. ((d : Placed) → AllByRecursion (Paired (asked (C.Crew.admitted crew.now) (fitted plates.now) table.now line) news (slice_index_or news at d)) table.now)) }
 {
     let group = new.all()[at];
     for other in table {

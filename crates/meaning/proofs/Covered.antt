@@ -1,6 +1,6 @@
 -- Groups that are covered by one of a list, and lines that are shown. Assumes nothing.
 use Rattle.std.proofs.Common.{◌≡◌, ℕ, true, List, [], ◌∷◌, ◌∙◌, ⊎_elim}
-use Rattle.std.specs.List.{ContainsAt as Has, AllByRecursion as All}
+use Rattle.std.specs.List.{ContainsAt as Has, AllByRecursion}
 use Rattle.std.proofs.ByRecursion.{all-has}
 use Rattle.std.proofs.lemmas.Bool.{or_cases, or_left, or_right, false≢true}
 use Rattle.groups.specs.declared.items.Item.{Item}
@@ -34,7 +34,7 @@ cover_covered (a ∷ u) g h m c =
     (λ n. or_right (covers a g) (covered_by u g) (cover_covered u g h n c))
     (has_cases a h u m)
 
-pub covered_trans : (ps : List ℕ) (u : List (List Item)) (g h : List Item) → All (λ a. group_over ps a ≡ true) u → covered_by u g ≡ true → covers g h ≡ true → covered_by u h ≡ true
+pub covered_trans : (ps : List ℕ) (u : List (List Item)) (g h : List Item) → AllByRecursion (λ a. group_over ps a ≡ true) u → covered_by u g ≡ true → covers g h ≡ true → covered_by u h ≡ true
 covered_trans ps u g h over k c =
     let r = covered_cover u g k in
     cover_covered u h r.group r.member (covers_trans r.group g h (over_parts ps r.group (all-has (λ a. group_over ps a ≡ true) u r.group over r.member)).rises r.over c)

@@ -4,7 +4,7 @@ use mathlib.Core.List.{Sublistᴰ}
 use Rattle.std.proofs.lemmas.Bool.Decides.{nat_tests}
 use Rattle.std.proofs.lemmas.Bool.{both_ways, and_parts, and_right}
 use Rattle.std.proofs.lemmas.List.{append_assoc, length-append}
-use Rattle.std.specs.List.{AllByRecursion as All}
+use Rattle.std.specs.List.{AllByRecursion}
 use Rattle.groups.specs.declared.items.Item.{Item}
 use Rattle.groups.specs.declared.items.Sign.TheVariants.{Star}
 use Rattle.groups.specs.Items.{sign_at}
@@ -122,7 +122,7 @@ needed_manageable f sound others line o n =
     f.plates []
     (and_parts (f.crew (moving f s)) (not (shows_any s others)) n.permitted).0
 
-cut_manageable : (f : Frame) → Sound f → {front rest kept : List (List Item)} → All (λ l. group_over f.plates l ≡ true) rest → CutFrom f front rest kept → All (λ l. manageable f l ≡ true) kept
+cut_manageable : (f : Frame) → Sound f → {front rest kept : List (List Item)} → AllByRecursion (λ l. group_over f.plates l ≡ true) rest → CutFrom f front rest kept → AllByRecursion (λ l. manageable f l ≡ true) kept
 cut_manageable f sound over end = tt
 cut_manageable f sound over (leave d u) = cut_manageable f sound over.1 d
 cut_manageable f sound over (keep {front = front} {kept = kept} {line = line} d n) = (needed_manageable f sound (front ++ kept) line over.0 n, cut_manageable f sound over.1 d)

@@ -1,6 +1,6 @@
 -- What is read off the table of a group is read off it of each group that it covers. Assumes nothing.
 use Rattle.std.proofs.Common.{◌≡◌, ℕ, ◌<◌, ◌≤◌, true, false, not, ◌&&◌, eqb, ◌⊎◌, List, [], ◌∷◌, is_some, Some, None, Option, sym, refl, ap, ◌∙◌, inl, inr, ⊎_elim, arith}
-use Rattle.std.specs.List.{ContainsAt as Has, AllByRecursion as All}
+use Rattle.std.specs.List.{ContainsAt as Has, AllByRecursion}
 use Rattle.std.proofs.lemmas.Bool.{and_parts, and_from, or_cases, or_left, or_right, eq-eqb, ne_eqb, cond-true, cond-false, cases_Bool, false≢true, not-true}
 use Rattle.groups.specs.declared.items.Item.{Item}
 use Rattle.groups.specs.declared.items.Sign.{Sign}
@@ -45,7 +45,7 @@ module _ (j : Item) (g : List Item) (n : sign_at g j.plate ≡ None) where
 only_opposite : (s u v : Sign) → opposite s ≡ Some u → sits s (Some v) ≡ false → v ≡ u
 only_opposite s u v e h = grind arith
 
-module _ (ps : List ℕ) (t : List (List Item)) (over : All (λ g. group_over ps g ≡ true) t) (l : List Item) (rises : rising 0 l ≡ true) (x h : List Item) (ox : group_over ps x ≡ true) (oh : group_over ps h ≡ true) (c : covers x h ≡ true) where
+module _ (ps : List ℕ) (t : List (List Item)) (over : AllByRecursion (λ g. group_over ps g ≡ true) t) (l : List Item) (rises : rising 0 l ≡ true) (x h : List Item) (ox : group_over ps x ≡ true) (oh : group_over ps h ≡ true) (c : covers x h ≡ true) where
   item_more : (i : Item) → Has l i → settled t x i ≡ true → (covered_by t h ≡ true) ⊎ (settled t h i ≡ true)
   item_more i m k =
       ⊎_elim

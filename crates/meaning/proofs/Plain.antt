@@ -1,6 +1,6 @@
 -- Tables of frames with no lines, with no possible setting, and with other levers. Assumes nothing.
 use Rattle.std.proofs.Common.{◌≡◌, ℕ, Bool, true, false, ◌&&◌, ◌||◌, eqb, List, [], ◌∷◌, is_some, Some, None, Option, sym, refl, ap, ◌∙◌, subst, ⊎_elim}
-use Rattle.std.specs.List.{ContainsAt as Has, AllByRecursion as All}
+use Rattle.std.specs.List.{ContainsAt as Has, AllByRecursion}
 use Rattle.std.proofs.ByRecursion.{All-weaker}
 use Rattle.std.proofs.lemmas.Bool.{and_from, or_cases, or_parts, eq-eqb, ne_eqb, cond-true, cond-false, cases_eq, cases_Bool, both_ways, false≢true}
 use Rattle.groups.specs.declared.items.Item.{Item}
@@ -63,7 +63,7 @@ abbrev any_names : List (List Item) → ℕ → Bool
 any_names [] p = false
 any_names (l ∷ lines) p = names l p || any_names lines p
 
-any_fitted : (ps : List ℕ) (lines : List (List Item)) → All (λ l. group_over ps l ≡ true) lines → (p : ℕ) → any_names lines p ≡ true → is_one_of ps p ≡ true
+any_fitted : (ps : List ℕ) (lines : List (List Item)) → AllByRecursion (λ l. group_over ps l ≡ true) lines → (p : ℕ) → any_names lines p ≡ true → is_one_of ps p ≡ true
 any_fitted ps [] over p h = absurd (false≢true h)
 any_fitted ps (l ∷ lines) over p h =
     ⊎_elim

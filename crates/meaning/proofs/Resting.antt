@@ -1,7 +1,7 @@
 -- A setting rests wherever a group lets it: so a manageable group is forbidden just when each setting that shows it shows
 -- a line. Assumes nothing.
 use Rattle.std.proofs.Common.{◌≡◌, ℕ, true, not, List, [], ◌∷◌, Some, None, Option, sym, ap, ◌∙◌, ⊎_elim, arith}
-use Rattle.std.specs.List.{AllByRecursion as All}
+use Rattle.std.specs.List.{AllByRecursion}
 use Rattle.std.proofs.lemmas.Bool.{and_parts, and_from, or_cases, or_left, or_right, not-true, not_from_false, cases_Bool, both_ways}
 use Rattle.groups.specs.declared.items.Item.{Item}
 use Rattle.groups.specs.declared.items.Sign.{Sign}
@@ -23,7 +23,7 @@ Below s t = (p : ℕ) → Within (states_of s p) (states_of t p)
 pub shows_less : (s t : Setting) (g : List Item) → rising 0 g ≡ true → Below s t → shows s g ≡ true → shows t g ≡ true
 shows_less s t g r b v = has_shows t g r (λ p e q. b p e (shows_has s g v p e q))
 
-pub any_less : (ps : List ℕ) (s t : Setting) (lines : List (List Item)) → All (λ l. group_over ps l ≡ true) lines → Below s t → shows_any s lines ≡ true → shows_any t lines ≡ true
+pub any_less : (ps : List ℕ) (s t : Setting) (lines : List (List Item)) → AllByRecursion (λ l. group_over ps l ≡ true) lines → Below s t → shows_any s lines ≡ true → shows_any t lines ≡ true
 any_less ps s t [] o b v = v
 any_less ps s t (l ∷ lines) o b v =
     ⊎_elim

@@ -1,6 +1,6 @@
 -- The ten small frames: a trial of all groups and settings finds their tables. Assumes nothing.
 use Rattle.std.proofs.Common.{◌≡◌, ℕ, Bool, true, not, ◌&&◌, ◌||◌, List, [], ◌∷◌, refl, subst, ⊎_elim}
-use Rattle.std.specs.List.{ContainsAt as Has, AllByRecursion as All}
+use Rattle.std.specs.List.{ContainsAt as Has, AllByRecursion}
 use Rattle.std.proofs.ByRecursion.{all-has}
 use Rattle.std.proofs.lemmas.Bool.{and_parts, or_cases, not-true, both_ways}
 use Rattle.groups.specs.declared.items.Item.{Item}
@@ -35,11 +35,11 @@ abbrev all_over : List ℕ → List (List Item) → Bool
 all_over ps [] = true
 all_over ps (l ∷ lines) = group_over ps l && all_over ps lines
 
-all_over_lem : (ps : List ℕ) (lines : List (List Item)) → all_over ps lines ≡ true → All (λ l. group_over ps l ≡ true) lines
+all_over_lem : (ps : List ℕ) (lines : List (List Item)) → all_over ps lines ≡ true → AllByRecursion (λ l. group_over ps l ≡ true) lines
 all_over_lem ps [] h = tt
 all_over_lem ps (l ∷ lines) h = let parts = and_parts (group_over ps l) (all_over ps lines) h in (parts.0, all_over_lem ps lines parts.1)
 
-no_other : (t : List (List Item)) (h : List Item) → covers_no_other t h ≡ true → All (λ g. covers h g ≡ true → covers g h ≡ true) t
+no_other : (t : List (List Item)) (h : List Item) → covers_no_other t h ≡ true → AllByRecursion (λ g. covers h g ≡ true → covers g h ≡ true) t
 no_other [] h k = tt
 no_other (g ∷ t) h k =
     let parts = and_parts (not (covers h g) || covers g h) (covers_no_other t h) k in
@@ -58,7 +58,7 @@ module _ (f : Frame) (t : List (List Item)) (sound : Sound f) (tried : every_gro
       (or_cases (not (is_forbidden f h)) (covered_by t h && covers_no_other t h) (group_tried f.plates (right_for f t) tried sound.plates h forb.fitted))
 
   -- the groups of a part of the table, each of which is forbidden and covered by no other
-  all_shortest : (u : List (List Item)) → all_forbidden f u ≡ true → ((h : List Item) → Forbidden f h → All (λ g. covers h g ≡ true → covers g h ≡ true) u) → All (Shortest f) u
+  all_shortest : (u : List (List Item)) → all_forbidden f u ≡ true → ((h : List Item) → Forbidden f h → AllByRecursion (λ g. covers h g ≡ true → covers g h ≡ true) u) → AllByRecursion (Shortest f) u
   all_shortest [] a k = tt
   all_shortest (g ∷ u) a k =
       let parts = and_parts (group_over f.plates g && is_forbidden f g) (all_forbidden f u) a in
@@ -93,7 +93,7 @@ abbrev all_right : List Example → Bool
 all_right [] = true
 all_right (e ∷ es) = right_example e && all_right es
 
-all_tables : (es : List Example) → All (λ e. Lawful e.frame.crew) es → all_right es ≡ true → All (λ e. IsTable e.frame e.table) es
+all_tables : (es : List Example) → AllByRecursion (λ e. Lawful e.frame.crew) es → all_right es ≡ true → AllByRecursion (λ e. IsTable e.frame e.table) es
 all_tables [] laws h = tt
 all_tables (e ∷ es) laws h =
     let parts = and_parts (right_example e) (all_right es) h in
@@ -105,7 +105,7 @@ all_right_lem : all_right small_frames ≡ true
 all_right_lem = refl
 
 -- each crew of the small frames keeps the laws
-all_lawful : All (λ e. Lawful e.frame.crew) small_frames
+all_lawful : AllByRecursion (λ e. Lawful e.frame.crew) small_frames
 all_lawful = (free_lawful, (free_lawful, (free_lawful, (hands_lawful 0, (free_lawful, (free_lawful, (free_lawful, (hands_lawful 1, (free_lawful, (free_lawful, tt))))))))))
 
 pub small_frames_lem : SmallFrames

@@ -1,6 +1,6 @@
 -- Each frame has a cut list: a trial of all settings tells of each line whether it is needed. Assumes nothing.
 use Rattle.std.proofs.Common.{◌≡◌, ℕ, Bool, true, false, cond, not, ◌&&◌, eqb, ◌⊎◌, List, [], ◌∷◌, ◌++◌, filter, sym, refl, ap, ◌∙◌, inl, inr, ⊎_elim}
-use Rattle.std.specs.List.{AllByRecursion as All}
+use Rattle.std.specs.List.{AllByRecursion}
 use Rattle.std.proofs.ByRecursion.{All-append}
 use Rattle.std.proofs.lemmas.Bool.{and_parts, and_cases, or_left, or_right, eq-eqb, cases_Bool, both_ways, not-true, not-false}
 use Rattle.groups.specs.declared.items.Item.{Item}
@@ -42,7 +42,7 @@ kept_agree t u (q ∷ ps) a =
     λ i. cond (first i) (q ∷ rest i) (rest i)
 
 -- lines over the fitted plates permit both of two settings that agree on these plates, or neither
-pub permits_agree : (f : Frame) (t s : Setting) → Agree f.plates t s → (lines : List (List Item)) → All (λ l. group_over f.plates l ≡ true) lines → permits f lines t ≡ permits f lines s
+pub permits_agree : (f : Frame) (t s : Setting) → Agree f.plates t s → (lines : List (List Item)) → AllByRecursion (λ l. group_over f.plates l ≡ true) lines → permits f lines t ≡ permits f lines s
 permits_agree f t s a lines over =
     let kept = kept_agree (λ p. holds Star (t p)) (λ p. holds Star (s p)) f.plates (λ p m. ap (holds Star) (a p m)) in
     let any = any_agree f.plates t s a lines over in
@@ -53,7 +53,7 @@ abbrev pub passes : Frame → List (List Item) → List Item → Setting → Boo
 passes f others line s = not (permits f others s && shows s line)
 
 -- the trial tells whether a line is left out or kept
-pub left_or_kept : (f : Frame) (others : List (List Item)) (line : List Item) → All (λ l. group_over f.plates l ≡ true) others → group_over f.plates line ≡ true → Superfluous f others line ⊎ Needed f others line
+pub left_or_kept : (f : Frame) (others : List (List Item)) (line : List Item) → AllByRecursion (λ l. group_over f.plates l ≡ true) others → group_over f.plates line ≡ true → Superfluous f others line ⊎ Needed f others line
 left_or_kept f others line over o =
     ⊎_elim
     (λ h. inl (λ s p.
@@ -71,11 +71,11 @@ left_or_kept f others line over o =
 -- what stays of the rest, and that it is over the fitted plates
 pub record Stays (f : Frame) (front rest : List (List Item)) : Type 0 where
   pub kept : List (List Item)
-  pub over : All (λ l. group_over f.plates l ≡ true) kept
+  pub over : AllByRecursion (λ l. group_over f.plates l ≡ true) kept
   pub cut : CutFrom f front rest kept
 
 -- gone through from the last to the first, each line is left out or kept
-pub some_stay : (f : Frame) (front rest : List (List Item)) → All (λ l. group_over f.plates l ≡ true) front → All (λ l. group_over f.plates l ≡ true) rest → Stays f front rest
+pub some_stay : (f : Frame) (front rest : List (List Item)) → AllByRecursion (λ l. group_over f.plates l ≡ true) front → AllByRecursion (λ l. group_over f.plates l ≡ true) rest → Stays f front rest
 some_stay f front [] a b = record { kept = []; over = tt; cut = end }
 some_stay f front (line ∷ rest) a b =
     let later = some_stay f (front ++ (line ∷ [])) rest (All-append (λ l. group_over f.plates l ≡ true) front (line ∷ []) a (b.0, tt)) b.1 in

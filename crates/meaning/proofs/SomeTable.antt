@@ -1,6 +1,6 @@
 -- Each frame has a table: of all groups over its plates the shortest, put in order. Assumes nothing.
 use Rattle.std.proofs.Common.{◌≡◌, ℕ, Bool, true, cond, not, ◌&&◌, ◌||◌, List, [], ◌∷◌, ◌++◌, map, Some, None, Decides, filter, Option, sym, refl, ap, ◌∙◌, subst, ⊎_elim}
-use Rattle.std.specs.List.{ContainsAt as Has, AllByRecursion as All}
+use Rattle.std.specs.List.{ContainsAt as Has, AllByRecursion}
 use Rattle.std.proofs.ByRecursion.{all-has, All-weaker, has_append_left, has_append_right, kept_by_passes, Decides-by_and}
 use Rattle.std.proofs.lemmas.Bool.{and_parts, and_from, or_cases, or_left, or_right, cond_both, cases_Bool, both_ways, not-true, not_from_false}
 use Rattle.std.proofs.lemmas.Bool.Decides.{Decides-and, Decides-like}
@@ -38,11 +38,11 @@ has_kept test (y ∷ xs) x h p =
     (λ q. ⊎_elim (λ e. absurd (both_ways (test x) (ap test (sym e) ∙ q) p)) (λ k. has_kept test xs x k p) (has_cases y x xs h))
 
 -- what holds of everything holds of each element
-pub all_of : {X : Type 0} (P : X → Type 0) → ((x : X) → P x) → (xs : List X) → All P xs
+pub all_of : {X : Type 0} (P : X → Type 0) → ((x : X) → P x) → (xs : List X) → AllByRecursion P xs
 all_of P h [] = tt
 all_of P h (x ∷ xs) = (h x, all_of P h xs)
 
--- ## All groups
+-- ## AllByRecursion groups
 
 -- the groups over these plates
 pub all_groups : List ℕ → List (List Item)
@@ -101,7 +101,7 @@ abbrev all_yield : Frame → List Item → List (List Item) → Bool
 all_yield f g [] = true
 all_yield f g (h ∷ us) = yields f g h && all_yield f g us
 
-all_yield_told : (f : Frame) → Sound f → (g : List Item) (us : List (List Item)) → Decides (all_yield f g us) (All (Yields f g) us)
+all_yield_told : (f : Frame) → Sound f → (g : List Item) (us : List (List Item)) → Decides (all_yield f g us) (AllByRecursion (Yields f g) us)
 all_yield_told f sound g us = Decides-by_and (yields f g) (Yields f g) (all_yield f g) (yields_told f sound g) refl (λ _ _. refl) us
 
 -- a group is forbidden, and each forbidden group that covers it is covered by it
@@ -115,7 +115,7 @@ shortest_told f sound g =
     Decides-like (tells_forbidden f g && all_yield f g (all_groups f.plates)) to from
     (Decides-and (tells_forbidden f g) (all_yield f g (all_groups f.plates)) (forbidden_told f sound g) (all_yield_told f sound g (all_groups f.plates)))
   where
-    to : Forbidden f g × All (Yields f g) (all_groups f.plates) → Shortest f g
+    to : Forbidden f g × AllByRecursion (Yields f g) (all_groups f.plates) → Shortest f g
     to r =
         record {
           forbidden = r.0;
@@ -124,7 +124,7 @@ shortest_told f sound g =
               (all-has (Yields f g) (all_groups f.plates) h r.1 (group_listed f.plates sound.plates h forb.fitted) forb c);
         }
 
-    from : Shortest f g → Forbidden f g × All (Yields f g) (all_groups f.plates)
+    from : Shortest f g → Forbidden f g × AllByRecursion (Yields f g) (all_groups f.plates)
     from s = (s.forbidden, all_of (Yields f g) (λ h forb c. ap (covers g) (s.alone h forb c) ∙ covers_itself g (over_parts f.plates g s.forbidden.fitted).rises) (all_groups f.plates))
 
 -- ## In order
@@ -152,16 +152,16 @@ place_old g (h ∷ t) k m =
     (λ b. m))
 
 -- and nothing else
-pub place_all : (P : List Item → Type 0) (g : List Item) (t : List (List Item)) → P g → All P t → All P (put_in_order g t)
+pub place_all : (P : List Item → Type 0) (g : List Item) (t : List (List Item)) → P g → AllByRecursion P t → AllByRecursion P (put_in_order g t)
 unfolding put_in_order
 place_all P g [] p a = (p, tt)
 place_all P g (h ∷ t) p a =
-    cond_both (before g h) (g ∷ h ∷ t) (cond (before h g) (h ∷ put_in_order g t) (h ∷ t)) (All P)
+    cond_both (before g h) (g ∷ h ∷ t) (cond (before h g) (h ∷ put_in_order g t) (h ∷ t)) (AllByRecursion P)
     (λ _. (p, a))
-    (λ _. cond_both (before h g) (h ∷ put_in_order g t) (h ∷ t) (All P) (λ _. (a.0, place_all P g t p a.1)) (λ _. a))
+    (λ _. cond_both (before h g) (h ∷ put_in_order g t) (h ∷ t) (AllByRecursion P) (λ _. (a.0, place_all P g t p a.1)) (λ _. a))
 
 -- a group comes before all of these just when it comes before each
-pub before_all_lem : (g : List Item) (t : List (List Item)) → Decides (before_all g t) (All (λ h. before g h ≡ true) t)
+pub before_all_lem : (g : List Item) (t : List (List Item)) → Decides (before_all g t) (AllByRecursion (λ h. before g h ≡ true) t)
 before_all_lem g t = Decides-by_and (before g) (λ h. before g h ≡ true) (before_all g) (λ h. (λ e. e, λ e. e)) refl (λ _ _. refl) t
 
 -- groups in order stay in order
@@ -191,7 +191,7 @@ arranged_has (h ∷ us) g m =
     (λ n. place_old h (arranged us) g (arranged_has us g n))
     (has_cases h g us m)
 
-pub arranged_all : (P : List Item → Type 0) (us : List (List Item)) → All P us → All P (arranged us)
+pub arranged_all : (P : List Item → Type 0) (us : List (List Item)) → AllByRecursion P us → AllByRecursion P (arranged us)
 unfolding arranged
 arranged_all P [] a = tt
 arranged_all P (g ∷ us) a = place_all P g (arranged us) a.0 (arranged_all P us a.1)

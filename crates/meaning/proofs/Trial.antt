@@ -1,6 +1,6 @@
 -- A trial of all settings of a frame, and of all groups over its plates. Assumes nothing.
 use Rattle.std.proofs.Common.{◌≡◌, ℕ, Bool, true, false, cond, not, ◌&&◌, ◌||◌, eqb, List, [], ◌∷◌, ◌++◌, Some, None, Decides, Option, sym, refl, ap, ◌∙◌, ⊎_elim}
-use Rattle.std.specs.List.{AllByRecursion as All}
+use Rattle.std.specs.List.{AllByRecursion}
 use Rattle.std.proofs.lemmas.Bool.{and_parts, and_from, or_cases, or_left, or_right, eqb-true, eq-eqb, ne_eqb, cond-true, cond-false, cases_eq, cases_Bool, both_ways, not-true, not_from_false}
 use Rattle.groups.specs.declared.items.Item.{Item}
 use Rattle.groups.specs.declared.items.Sign.{Sign}
@@ -14,7 +14,7 @@ use Rattle.meaning.specs.SmallFrames.{plus, minus, star}
 use Rattle.meaning.proofs.Fitted.{over_parts, items_again}
 use Rattle.meaning.proofs.Resting.{forbidden_excluded, excluded_forbidden}
 
--- ## All settings
+-- ## AllByRecursion settings
 
 -- a setting with one lever put into a state
 abbrev pub put : ℕ → State → Setting → Setting
@@ -66,7 +66,7 @@ shows_agree ps t s a (i ∷ g) h =
     let parts = and_parts (is_one_of ps i.plate) (fitted_in ps g) h in
     λ j. holds i.sign (a i.plate parts.0 j) && shows_agree ps t s a g parts.1 j
 
-pub any_agree : (ps : List ℕ) (t s : Setting) → Agree ps t s → (lines : List (List Item)) → All (λ l. group_over ps l ≡ true) lines → shows_any t lines ≡ shows_any s lines
+pub any_agree : (ps : List ℕ) (t s : Setting) → Agree ps t s → (lines : List (List Item)) → AllByRecursion (λ l. group_over ps l ≡ true) lines → shows_any t lines ≡ shows_any s lines
 any_agree ps t s a [] h = refl
 any_agree ps t s a (l ∷ lines) h = λ j. shows_agree ps t s a l (over_parts ps l h.0).fitted j || any_agree ps t s a lines h.1 j
 
@@ -75,7 +75,7 @@ abbrev pub excludes : List (List Item) → List Item → Setting → Bool
 excludes lines g s = not (shows s g) || shows_any s lines
 
 -- the trial tells whether a group is excluded
-pub excluded_tried : (ps : List ℕ) (lines : List (List Item)) (g : List Item) → All (λ l. group_over ps l ≡ true) lines → group_over ps g ≡ true → Decides (every_setting ps (excludes lines g)) (Excluded lines g)
+pub excluded_tried : (ps : List ℕ) (lines : List (List Item)) (g : List Item) → AllByRecursion (λ l. group_over ps l ≡ true) lines → group_over ps g ≡ true → Decides (every_setting ps (excludes lines g)) (Excluded lines g)
 excluded_tried ps lines g over o = (
   (λ h s v.
       let r = setting_tried ps (excludes lines g) h s in
@@ -102,7 +102,7 @@ forbidden_tried f sound g o = (
   (λ forb. and_from (manageable f g) (every_setting f.plates (excludes f.lines g)) forb.managed ((excluded_tried f.plates f.lines g sound.lines o).1 (forbidden_excluded f sound g forb))),
 )
 
--- ## All groups
+-- ## AllByRecursion groups
 
 -- a test holds of all groups over these plates
 abbrev pub every_group : List ℕ → (List Item → Bool) → Bool

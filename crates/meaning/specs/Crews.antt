@@ -1,5 +1,5 @@
 -- What a crew means: which levers can be between together. Assumes nothing.
-use Rattle.std.specs.Prelude.{◌≡◌, ℕ, min, Bool, true, ◌&&◌, leb, List, [], ◌∷◌, ◌++◌, length, filter, nat_le, nat_lt}
+use Rattle.std.specs.Prelude.{◌≡◌, ℕ, min, Bool, true, ◌&&◌, List, [], ◌∷◌, ◌++◌, length, filter, nat_le, nat_lt}
 use Rattle.groups.specs.Rises.{climbing}
 
 -- a crew's meaning: whether it admits a list of plates, so that the levers of the list can be between together
@@ -21,7 +21,7 @@ hands h ps = nat_le (length ps) (min h 32)
 
 -- split: at most one lever below the plate is between, and at most one from the plate upwards
 abbrev pub split : ℕ → Admits
-split plate ps = nat_le (length (filter (λ p. nat_lt p plate) ps)) 1 && nat_le (length (filter (λ p. leb plate p) ps)) 1
+split plate ps = nat_le (length (filter (λ p. nat_lt p plate) ps)) 1 && nat_le (length (filter (λ p. nat_le plate p) ps)) 1
 
 -- free: any levers can be between together
 abbrev pub free : Admits

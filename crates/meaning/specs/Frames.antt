@@ -1,6 +1,6 @@
 -- A frame with its crew and its lines: which settings are possible, and which groups are forbidden. Assumes nothing.
 use Rattle.std.specs.Prelude.{◌≡◌, ℕ, Bool, true, false, not, ◌&&◌, ◌||◌, List, [], ◌∷◌, map, Some, None, filter, Option, ◌==◌}
-use Rattle.std.specs.List.{AllByRecursion as All}
+use Rattle.std.specs.List.{AllByRecursion}
 use Rattle.groups.specs.declared.items.Item.{Item}
 use Rattle.groups.specs.declared.items.Sign.{Sign}
 use Rattle.groups.specs.declared.items.Sign.TheVariants.{Plus, Minus, Star}
@@ -33,7 +33,7 @@ group_over ps g = rising 0 g && fitted_in ps g
 pub record Sound (f : Frame) : Type 0 where
   pub crew : Lawful f.crew
   pub plates : climbing 0 f.plates ≡ true
-  pub lines : All (λ l. group_over f.plates l ≡ true) f.lines
+  pub lines : AllByRecursion (λ l. group_over f.plates l ≡ true) f.lines
 
 -- the plates of the fitted levers that a setting has between
 abbrev pub moving : Frame → Setting → List ℕ

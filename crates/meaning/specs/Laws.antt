@@ -1,7 +1,7 @@
 -- What is so of forbidden groups, tables and cut lists, whatever the frame and its crew. Assumes nothing.
 use Rattle.std.specs.Prelude.{◌≡◌, ℕ, Bool, true, false, not, ◌&&◌, ◌||◌, ◌↔◌, List, [], ◌∷◌, ◌++◌, Some, None, Decides, Option, ◌≢◌}
 use mathlib.Core.List.{Sublistᴰ}
-use Rattle.std.specs.List.{ContainsAt as Has, AllByRecursion as All}
+use Rattle.std.specs.List.{ContainsAt as Has, AllByRecursion}
 use Rattle.groups.specs.declared.items.Item.{Item}
 use Rattle.groups.specs.declared.items.Sign.{Sign}
 use Rattle.groups.specs.declared.items.Sign.TheVariants.{Plus, Minus, Star}
@@ -16,7 +16,7 @@ use Rattle.meaning.specs.CutLists.{IsCutList}
 -- groups over the fitted plates that the method leaves nothing to add to: one of them covers each manageable line, and
 -- one covers each manageable combination of two of them
 pub record Closed (f : Frame) (u : List (List Item)) : Type 0 where
-  pub over : All (λ g. group_over f.plates g ≡ true) u
+  pub over : AllByRecursion (λ g. group_over f.plates g ≡ true) u
   pub lines : (l : List Item) → Has f.lines l → manageable f l ≡ true → covered_by u l ≡ true
   pub combinations : (x : ℕ) (a b c : List Item) → Has u a → Has u b → Combination x a b c → manageable f c ≡ true → covered_by u c ≡ true
 
@@ -135,7 +135,7 @@ CutListIsRight = (f : Frame) (cut : List (List Item)) → IsCutList f cut → Ri
 
 -- a line that the crew can't manage is on no cut list
 abbrev pub CutListIsManageable : Type 0
-CutListIsManageable = (f : Frame) → Sound f → (cut : List (List Item)) → IsCutList f cut → All (λ l. manageable f l ≡ true) cut
+CutListIsManageable = (f : Frame) → Sound f → (cut : List (List Item)) → IsCutList f cut → AllByRecursion (λ l. manageable f l ≡ true) cut
 
 -- each frame has a cut list
 abbrev pub SomeCutList : Type 0

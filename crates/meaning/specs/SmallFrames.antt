@@ -1,6 +1,6 @@
 -- Ten small frames and their tables. Assumes nothing.
 use Rattle.std.specs.Prelude.{◌≡◌, ℕ, false, List, [], ◌∷◌}
-use Rattle.std.specs.List.{AllByRecursion as All}
+use Rattle.std.specs.List.{AllByRecursion}
 use Rattle.groups.specs.declared.items.Item.{Item}
 use Rattle.groups.specs.declared.items.Sign.TheVariants.{Plus, Minus, Star}
 use Rattle.meaning.specs.States.{Setting}
@@ -109,5 +109,5 @@ small_frames = no_lines ∷ either_end ∷ neither_moves ∷ nobody_moves ∷ mo
 
 -- each of the frames has its table, and in the last no setting is possible
 pub record SmallFrames : Type 0 where
-  pub tables : All (λ e. IsTable e.frame e.table) small_frames
+  pub tables : AllByRecursion (λ e. IsTable e.frame e.table) small_frames
   pub stuck : (s : Setting) → possible neither_end.frame s ≡ false

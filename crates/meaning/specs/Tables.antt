@@ -1,6 +1,6 @@
 -- The table of a frame: its order, and which list it is. Assumes nothing.
 use Rattle.std.specs.Prelude.{◌≡◌, ℕ, Bool, true, false, cond, not, ◌&&◌, ◌||◌, List, [], ◌∷◌, length, ◌==◌, nat_lt}
-use Rattle.std.specs.List.{ContainsAt as Has, AllByRecursion as All}
+use Rattle.std.specs.List.{ContainsAt as Has, AllByRecursion}
 use Rattle.groups.specs.declared.items.Item.{Item}
 use Rattle.groups.specs.declared.items.Sign.{Sign}
 use Rattle.groups.specs.declared.items.Sign.TheVariants.{Plus, Minus, Star}
@@ -45,7 +45,7 @@ put_in_order g (h ∷ t) = cond (before g h) (g ∷ h ∷ t) (cond (before h g) 
 -- the list is the frame's table: every shortest forbidden group, no other, in order and so each once
 pub record IsTable (f : Frame) (t : List (List Item)) : Type 0 where
   pub every : (g : List Item) → Shortest f g → Has t g
-  pub only : All (Shortest f) t
+  pub only : AllByRecursion (Shortest f) t
   pub order : in_order t ≡ true
 
 -- one of the groups covers the group

@@ -9,7 +9,7 @@ use Rattle.levers.specs.declared.Levers.{Levers}
 use Rattle.levers.specs.Sets.{has}
 use Rattle.levers.proofs.Members.{same_sets, none_high}
 use Rattle.placed.specs.declared.Placed.{Placed}
-use Rattle.placed.specs.Signs.{sign_of, sign_on, without_upper, without_lower, has_upper, has_lower, opposed}
+use Rattle.placed.specs.Signs.{sign_of, sign_on, without_upper, without_lower, has_upper, has_lower, opposed_signs}
 
 -- what a group without a lever says of it sits on all
 abbrev pub sits_if : Option Sign → Option Sign → Bool
@@ -31,7 +31,7 @@ pub joint_ends : (u d v e t : Bool) → sign_of ((u || v) && not t) ((d || e) &&
 joint_ends u d v e t = grind arith
 
 -- + against -, read off the ends
-pub opposing_ends : (u d v e : Bool) → (((u && not d) && (e && not v)) || ((d && not u) && (v && not e))) ≡ opposed (sign_of u d) (sign_of v e)
+pub opposing_ends : (u d v e : Bool) → (((u && not d) && (e && not v)) || ((d && not u) && (v && not e))) ≡ opposed_signs (sign_of u d) (sign_of v e)
 opposing_ends u d v e = grind arith
 
 -- the ends with the upper one of one lever, of which t tells, taken away

@@ -1,10 +1,9 @@
 -- What stands where an item is due, and what reading makes of it. Assumes nothing.
-use Rattle.std.proofs.Common.{◌≡◌, ℕ, suc, ◌+◌, ◌-◌, ◌^◌, ◌<◌, ◌≤◌, min, Bool, true, false, cond, eqb, ◌⊎◌, List, [], ◌∷◌, ◌++◌, length, drop, Some, None, Ok, Err, Option, Result, sym, refl, ap, ◌∙◌, subst, inl, inr, arith}
+use Rattle.std.proofs.Common.{◌≡◌, ℕ, ◌+◌, ◌-◌, ◌^◌, ◌<◌, ◌≤◌, Bool, true, false, cond, eqb, ◌⊎◌, List, [], ◌∷◌, length, drop, Some, None, Ok, Err, Option, sym, refl, ap, ◌∙◌, inl, inr, arith}
 use Rattle.std.specs.Char.{is_ascii_digit}
 use Rattle.std.proofs.lemmas.Bool.{cases_lt, cases_eq, eqb-true, eq-eqb, ne_eqb, cond-true, cond-false}
 use Rattle.faults.specs.declared.Refusal.{Refusal}
 use Rattle.faults.specs.declared.Refusal.TheVariants as refusal
-use Rattle.faults.specs.declared.TextFault.{TextFault}
 use Rattle.faults.specs.Faults.{text_fault_of}
 use Rattle.groups.specs.declared.items.Item.{Item}
 use Rattle.groups.specs.declared.items.Sign.{Sign}
@@ -12,7 +11,7 @@ use Rattle.groups.specs.declared.items.Sign.TheVariants.{Plus, Minus, Star}
 use Rattle.groups.specs.Items.{names, insert}
 use Rattle.reading.specs.Grammar.{mark_of, item, behind, NewItem, FaultAt, no_number, ninth, repeated, no_sign, no_space, no_end}
 use Rattle.reading.specs.Numbers.{run, digits_of, plate_of, Numeral}
-use Rattle.reading.specs.Reading.{◌>>=◌, numbered, item_number, plate_due, sign_of, signed, sign_due, end_due, more_by, more_due, items_from, read_items}
+use Rattle.reading.specs.Reading.{◌>>=◌, numbered, item_number, plate_due, sign_of, signed, sign_due, more_by, more_due, items_from, read_items}
 use Rattle.reading.specs.Tokens.{symbol, byte_at}
 use Rattle.reading.proofs.Items.{none_not_some, stop_plate, on_plate, on_sign}
 use Rattle.reading.proofs.Numerals.{numeral_plate, plate_numeral}

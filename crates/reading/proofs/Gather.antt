@@ -1,11 +1,11 @@
 -- Items put one after the other into a group. Assumes nothing.
-use Rattle.std.proofs.Common.{◌≡◌, ℕ, ◌+◌, ◌<◌, ◌≤◌, Bool, true, false, cond, eqb, List, [], ◌∷◌, ◌++◌, length, is_some, Some, None, Option, sym, refl, ap, ◌∙◌, ⊎_elim, arith}
+use Rattle.std.proofs.Common.{◌≡◌, ℕ, ◌+◌, ◌≤◌, true, false, List, [], ◌∷◌, ◌++◌, length, is_some, Some, None, Option, sym, refl, ap, ◌∙◌, ⊎_elim, arith}
 use Rattle.std.proofs.lemmas.Bool.{cases_eq, eq-eqb, ne_eqb, cond-true, cond-false, both_ways}
 use Rattle.groups.specs.declared.items.Item.{Item}
 use Rattle.groups.specs.declared.items.Sign.{Sign}
 use Rattle.groups.specs.Items.{rising, sign_at, names, insert}
 use Rattle.groups.proofs.Rising.{insert_rises, insert_sign, unnamed}
-use Rattle.reading.specs.Grammar.{Items, Once, item, none, more}
+use Rattle.reading.specs.Grammar.{Items, Once, none, more}
 use Rattle.reading.proofs.Items.{length_insert}
 
 -- the items seen and more items, each put into its place

@@ -1,7 +1,7 @@
 -- One item of a group: where its reading stops, and how it goes on. Assumes nothing.
 use Rattle.std.proofs.Common.{◌≡◌, ℕ, zero, suc, ◌+◌, ◌-◌, ◌*◌, ◌<◌, ◌≤◌, Bool, true, false, cond, not, eqb, ltb, leb, List, [], ◌∷◌, length, drop, Some, None, Ok, Err, Option, Result, sym, refl, ap, ◌∙◌, arith}
 use Rattle.std.specs.Str.{all_ascii_digits}
-use Rattle.std.proofs.lemmas.Bool.{and_from, le-leb, lt-ltb, leb-true, cond-true, cond-false, eqb-false}
+use Rattle.std.proofs.lemmas.Bool.{and_from, lt-ltb, eqb-false}
 use Rattle.faults.specs.declared.Refusal.TheVariants as refusal
 use Rattle.faults.specs.declared.TextFault.{TextFault}
 use Rattle.faults.specs.Faults.{text_fault_of}

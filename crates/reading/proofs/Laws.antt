@@ -1,5 +1,5 @@
 -- Reading gives the group just where the text spells it, and else the first fault. Assumes nothing.
-use Rattle.std.proofs.Common.{◌≡◌, ℕ, zero, suc, ◌+◌, ◌-◌, ◌^◌, ◌<◌, ◌≤◌, Bool, true, false, cond, eqb, List, [], ◌∷◌, ◌++◌, length, is_some, Some, None, Ok, Err, Result, sym, refl, ap, ◌∙◌, subst, ⊎_elim, append_assoc, arith, length-append, take-append-drop}
+use Rattle.std.proofs.Common.{◌≡◌, ℕ, zero, suc, ◌+◌, ◌-◌, ◌^◌, ◌<◌, ◌≤◌, Bool, true, false, cond, List, [], ◌∷◌, ◌++◌, length, is_some, Some, None, Ok, Err, Result, sym, refl, ap, ◌∙◌, subst, ⊎_elim, append_assoc, arith, length-append, take-append-drop}
 use Rattle.std.specs.Char.{is_ascii_digit}
 use Rattle.std.proofs.lemmas.Bool.{cases_eq, ne_eqb, cond-false}
 use Rattle.faults.specs.declared.Refusal.{Refusal}
@@ -9,14 +9,14 @@ use Rattle.faults.specs.Faults.{text_fault_of}
 use Rattle.groups.specs.declared.items.Item.{Item}
 use Rattle.groups.specs.declared.items.Sign.{Sign}
 use Rattle.groups.specs.declared.items.Sign.TheVariants.{Plus, Minus, Star}
-use Rattle.groups.specs.Items.{rising, sign_at, names, insert}
+use Rattle.groups.specs.Items.{names, insert}
 use Rattle.groups.proofs.Rising.{same_signs}
 use Rattle.reading.specs.Grammar.{mark_of, item, Items, none, more, Once, Spells, behind, NewItem, FaultAt, no_number, ninth, repeated, no_sign, no_space, no_end, FirstFault, no_bracket, in_items, Refused, RightAnswer}
 use Rattle.reading.specs.Numbers.{run, digits_of, Numeral}
-use Rattle.reading.specs.Reading.{◌>>=◌, open_due, read_items, read_group}
+use Rattle.reading.specs.Reading.{open_due, read_items, read_group}
 use Rattle.reading.specs.Tokens.{symbol, byte_at}
 use Rattle.reading.proofs.Fronts.{Front, fault, last, spaced, front, read_last, read_more, read_fault, place_more, place_here, same_first}
-use Rattle.reading.proofs.Gather.{gather, Apart, Fit, items_fit, fit_push, gather_push, apart_push, apart_front, length_gather, once_apart, apart_once, gather_rises, gather_says}
+use Rattle.reading.proofs.Gather.{gather, Apart, items_fit, fit_push, gather_push, apart_front, length_gather, once_apart, apart_once, gather_rises, gather_says}
 use Rattle.reading.proofs.Items.{same_ok, same_err, ok_not_err, length_insert}
 use Rattle.reading.proofs.Numerals.{numeral_digits, run_front, digits_front, behind_front}
 use Rattle.reading.proofs.Steps.{stop, run_long}

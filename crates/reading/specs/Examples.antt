@@ -1,10 +1,8 @@
 -- Worked examples: what reading answers to texts that are nearly right. Assumes nothing.
-use Rattle.std.specs.Prelude.{◌≡◌, ℕ, List, [], ◌∷◌, Ok, Err, codes, Result}
+use Rattle.std.specs.Prelude.{◌≡◌, ℕ, List, [], ◌∷◌, Ok, Err, codes}
 use Rattle.faults.specs.declared.Refusal.{Refusal}
 use Rattle.faults.specs.declared.Refusal.TheVariants.{Number, Mark, Repeated, Ninth}
-use Rattle.faults.specs.declared.TextFault.{TextFault}
 use Rattle.faults.specs.Faults.{text_fault_of}
-use Rattle.groups.specs.declared.items.Item.{Item}
 use Rattle.groups.specs.declared.items.Sign.TheVariants.{Plus, Minus, Star}
 use Rattle.reading.specs.Grammar.{item}
 use Rattle.reading.specs.Reading.{read_group}

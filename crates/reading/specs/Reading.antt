@@ -1,6 +1,5 @@
 -- Reading from left to right: what is due, and the fault where it is not there. Assumes nothing.
 use Rattle.std.specs.Prelude.{ℕ, zero, suc, Bool, true, false, cond, List, [], ◌∷◌, drop, Some, None, Ok, Err, Option, Result, ◌==◌}
-use Rattle.faults.specs.declared.Refusal.{Refusal}
 use Rattle.faults.specs.declared.Refusal.TheVariants as refusal
 use Rattle.faults.specs.declared.TextFault.{TextFault}
 use Rattle.faults.specs.Faults.{text_fault_of}

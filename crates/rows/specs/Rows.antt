@@ -1,6 +1,6 @@
 -- What a row holds. Assumes nothing.
 use Rattle.std.specs.Prelude.{ℕ, List, map, take}
-use Rattle.std.specs.List.{AllByRecursion as All}
+use Rattle.std.specs.List.{AllByRecursion}
 use Rattle.groups.specs.declared.items.Item.{Item}
 use Rattle.placed.specs.declared.Placed.{Placed}
 use Rattle.placed.specs.Signs.{Within}
@@ -17,4 +17,4 @@ spell_all ps gs = map (spell ps) gs
 
 -- the groups name no lever from place n on
 abbrev pub AllWithin : ℕ → List Placed → Type 0
-AllWithin n gs = All (Within n) gs
+AllWithin n gs = AllByRecursion (Within n) gs

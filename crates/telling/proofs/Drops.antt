@@ -1,6 +1,6 @@
 -- One end less of a group by its places. Assumes nothing.
 use Rattle.std.proofs.Common.{◌≡◌, ℕ, zero, suc, ◌+◌, ◌<◌, ◌≤◌, Bool, true, false, cond, ◌&&◌, ◌||◌, eqb, ◌⊎◌, List, [], ◌∷◌, map, length, get_or, is_some, Some, None, Option, sym, refl, ap, ◌∙◌, subst, inl, inr, ⊎_elim, arith}
-use Rattle.std.specs.List.{AllByRecursion as All}
+use Rattle.std.specs.List.{AllByRecursion}
 use Rattle.std.proofs.ByRecursion.{All-map}
 use Rattle.std.proofs.lemmas.Bool.{eq-eqb, ne_eqb, cond-true, cond-false, cases_eq, cases_Bool, cases_lt, both_ways, false≢true, and_from, or_left, or_right}
 use Rattle.groups.specs.declared.items.Item.{Item}
@@ -39,7 +39,7 @@ spell_over ps g c = and_from _ _ (spelled_rises ps g c) (names_fitted ps (spell 
     at_plate q n (inl f) = ap (is_one_of ps) (sym f.2) ∙ one_of ps f.0 f.1
     at_plate q n (inr f) = absurd (false≢true (sym (ap is_some (spelled_none ps g q f)) ∙ n))
 
-pub spell_all_over : (ps : List ℕ) (gs : List Placed) → climbing 0 ps ≡ true → All (λ g. group_over ps g ≡ true) (spell_all ps gs)
+pub spell_all_over : (ps : List ℕ) (gs : List Placed) → climbing 0 ps ≡ true → AllByRecursion (λ g. group_over ps g ≡ true) (spell_all ps gs)
 spell_all_over ps gs c = All-map (λ g. group_over ps g ≡ true) (spell ps) gs (all_of (λ g. group_over ps (spell ps g) ≡ true) (λ g. spell_over ps g c) gs)
 
 -- ends by places are ends by plates

@@ -2,8 +2,8 @@ use Rattle.std.proofs.Common.{arith}
 use Rattle.crews.proofs.Counts.{both_sides}
 use Rattle.crews.proofs.counting.parted.Goals as goal
 
-pub overflow-sub-result : goal.overflow-sub-result
-overflow-sub-result c = omega (arith, c.below-below.ensures, both_sides c.args.plate c.args.plates.now)
+pub overflow_sub-result : goal.overflow_sub-result
+overflow_sub-result c = omega (arith, c.below-below.ensures, both_sides c.args.plate c.args.plates.now)
 
 pub returns : goal.returns
 returns c = record { below = c.below-below.ensures; upwards = omega (arith, c.below-below.ensures, both_sides c.args.plate c.args.plates.now) }

@@ -1,5 +1,5 @@
 use Rattle.std.proofs.Common.{◌≡◌, ℕ, ◌<◌, length, get_or, sym, subst, arith}
-use Rattle.std.specs.List.{AllByRecursion as All}
+use Rattle.std.specs.List.{AllByRecursion}
 use Rattle.placed.specs.declared.Placed.{Placed}
 use Rattle.frames.specs.Fitted.{fitted}
 use Rattle.rows.specs.Rows.{groups_of}
@@ -19,7 +19,7 @@ pub returns-then-not-pair-with-table : goal.returns-then-not-pair-with-table
 returns-then-not-pair-with-table g c =
     let a = asked (g.C.Crew.admitted c.args.crew.now) (fitted c.args.plates.now) c.args.table.now c.args.line in
     let old = groups_of c.args.new.now in
-    step_stopped a old old (groups_of c.pair-with-table.new.new) c.pair-with-table.result (λ n. (d : Placed) → All (Paired a n (get_or n c.args.at d)) c.args.table.now) (PairedOne a c.args.at)
+    step_stopped a old old (groups_of c.pair-with-table.new.new) c.pair-with-table.result (λ n. (d : Placed) → AllByRecursion (Paired a n (get_or n c.args.at d)) c.args.table.now) (PairedOne a c.args.at)
     c.if-not-pair-with-table.true (grew_none old) c.pair-with-table.ensures
 
 pub returns : goal.returns
@@ -35,7 +35,7 @@ returns g c =
     step_after a old mid news c.pair-with-new.result (PairedOne a at) first.grew
     (step_goal a mid news c.pair-with-new.result (λ n. (d : Placed) (j : ℕ) → j < at → Paired a n (get_or n at d) (get_or n j d)) (PairedOne a at)
     (λ before. record {
-      table = λ d. subst (λ z. All (Paired a news z) c.args.table.now) (sym (grew_at mid news at d second.grew l)) (all_grew a mid news (get_or mid at d) c.args.table.now second.grew (first.done c.if-not-pair-with-table.false d));
+      table = λ d. subst (λ z. AllByRecursion (Paired a news z) c.args.table.now) (sym (grew_at mid news at d second.grew l)) (all_grew a mid news (get_or mid at d) c.args.table.now second.grew (first.done c.if-not-pair-with-table.false d));
       before = before;
     })
     second)

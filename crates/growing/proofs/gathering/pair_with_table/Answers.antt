@@ -1,5 +1,5 @@
 use Rattle.std.proofs.Common.{◌≡◌, ◌+◌, ◌<◌, length, get_or, take, sym, ap, ◌∙◌, subst, arith}
-use Rattle.std.specs.List.{AllByRecursion as All}
+use Rattle.std.specs.List.{AllByRecursion}
 use Rattle.std.proofs.ByRecursion.{All-get_or}
 use Rattle.std.proofs.lemmas.List.{take_all}
 use Rattle.placed.specs.declared.Placed.{Placed}
@@ -33,7 +33,7 @@ pub returns-then-not-pair : goal.returns-then-not-pair
 returns-then-not-pair g c =
     let a = asked (g.C.Crew.admitted c.args.crew.now) (fitted c.args.plates.now) c.args.table.now c.args.line in
     let group = get_or c.all.result.now c.args.at blank in
-    step_stopped a (groups_of c.args.new.now) (groups_of c.loop-other.new) (groups_of c.pair.new.new) c.pair.result (λ news. Paired a news group (get_or c.args.table.now c.loop-other.other-index blank)) (λ news. (d : Placed) → All (Paired a news (get_or news c.args.at d)) c.args.table.now)
+    step_stopped a (groups_of c.args.new.now) (groups_of c.loop-other.new) (groups_of c.pair.new.new) c.pair.result (λ news. Paired a news group (get_or c.args.table.now c.loop-other.other-index blank)) (λ news. (d : Placed) → AllByRecursion (Paired a news (get_or news c.args.at d)) c.args.table.now)
     c.if-not-pair.true c.loop-other.invariant.grew c.pair.ensures
 
 pub loop-other-preserved : goal.loop-other-preserved
@@ -43,7 +43,7 @@ loop-other-preserved g c =
     let table = c.args.table.now in
     let i = c.loop-other.other-index in
     way_more a (groups_of c.args.new.now) (groups_of c.loop-other.new) (groups_of c.pair.new.new) c.pair.result
-    (λ news. All (Paired a news group) (take i table)) (λ news. Paired a news group (get_or table i blank)) (λ news. All (Paired a news group) (take (i + 1) table))
+    (λ news. AllByRecursion (Paired a news group) (take i table)) (λ news. Paired a news group (get_or table i blank)) (λ news. AllByRecursion (Paired a news group) (take (i + 1) table))
     c.if-not-pair.false c.loop-other.invariant c.pair.ensures (table_more a (groups_of c.loop-other.new) (groups_of c.pair.new.new) group table i blank c.loop-other-test.true)
 
 pub returns : goal.returns
@@ -53,5 +53,5 @@ returns g c =
     let table = c.args.table.now in
     let old = groups_of c.args.new.now in
     let news = groups_of c.loop-other.new in
-    way_end a old news (λ n. All (Paired a n group) (take c.loop-other.other-index table)) (λ n. (d : Placed) → All (Paired a n (get_or n c.args.at d)) table) c.loop-other.invariant
-    (λ below d. subst (λ z. All (Paired a news z) table) (read_at c.all.result.now old news c.args.at d blank c.all.ensures c.loop-other.invariant.grew c.requires.there) (subst (All (Paired a news group)) (take_all c.loop-other.other-index table c.loop-other-test.false) below))
+    way_end a old news (λ n. AllByRecursion (Paired a n group) (take c.loop-other.other-index table)) (λ n. (d : Placed) → AllByRecursion (Paired a n (get_or n c.args.at d)) table) c.loop-other.invariant
+    (λ below d. subst (λ z. AllByRecursion (Paired a news z) table) (read_at c.all.result.now old news c.args.at d blank c.all.ensures c.loop-other.invariant.grew c.requires.there) (subst (AllByRecursion (Paired a news group)) (take_all c.loop-other.other-index table c.loop-other-test.false) below))

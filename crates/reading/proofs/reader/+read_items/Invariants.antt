@@ -1,4 +1,4 @@
 use Rattle.reading.proofs.reader.+read_items.Given as goal
 
-abbrev pub decreases-read-items : goal.decreases-read-items
-decreases-read-items l = l.room
+abbrev pub decreases-read_items : goal.decreases-read_items
+decreases-read_items l = l.room

@@ -1,4 +1,4 @@
-use Rattle.std.proofs.Common.{◌≡◌, ◌≤◌, length, sym, arith}
+use Rattle.std.proofs.Common.{◌≡◌, sym, arith}
 use Rattle.std.specs.Char.{is_ascii_digit}
 use Rattle.std.proofs.lemmas.List.Sums.{prefix_len-drop_yes, prefix_len-drop_no, prefix_len-drop_all, prefix_len-le-length}
 use Rattle.reading.specs.Numbers.{run}
@@ -6,11 +6,11 @@ use Rattle.reading.proofs.tokens.run_of_digits.Goals as goal
 
 pub loop-n-preserved : goal.loop-n-preserved
 loop-n-preserved c =
-    omega (arith, c.loop-n.invariant, prefix_len-drop_yes is_ascii_digit c.args.text.now c.loop-n.n 0 c.loop-n-test.true (sym c.if-is-ascii-digit.ensures.value))
+    omega (arith, c.loop-n.invariant, prefix_len-drop_yes is_ascii_digit c.args.text.now c.loop-n.n 0 c.loop-n-test.true (sym c.if-is_ascii_digit.ensures.value))
 
-pub returns-else-is-ascii-digit : goal.returns-else-is-ascii-digit
-returns-else-is-ascii-digit c =
-    let is : c.loop-n.n ≡ run c.args.text.now = omega (arith, c.loop-n.invariant, prefix_len-drop_no is_ascii_digit c.args.text.now c.loop-n.n 0 c.loop-n-test.true (sym c.if-is-ascii-digit.ensures.value)) in
+pub returns-else-is_ascii_digit : goal.returns-else-is_ascii_digit
+returns-else-is_ascii_digit c =
+    let is : c.loop-n.n ≡ run c.args.text.now = omega (arith, c.loop-n.invariant, prefix_len-drop_no is_ascii_digit c.args.text.now c.loop-n.n 0 c.loop-n-test.true (sym c.if-is_ascii_digit.ensures.value)) in
     record { value = is; within = omega (arith, c.loop-n-test.true) }
 
 pub returns-after-loop-n : goal.returns-after-loop-n

@@ -12,7 +12,7 @@ use Rattle.groups.specs.Rises.{climbing}
 use Rattle.groups.proofs.Climbing.{place_cases}
 use Rattle.groups.proofs.Rising.{same_signs}
 use Rattle.placed.specs.declared.Placed.{Placed}
-use Rattle.placed.specs.Signs.{Within, sign_on, opposed}
+use Rattle.placed.specs.Signs.{Within, sign_on, opposed_signs}
 use Rattle.placed.specs.Spelling.{spell}
 use Rattle.placed.proofs.Spelled.{spelled_sign, spelled_none, joined_over}
 use Rattle.growing.specs.Gathered.{Asked, Fresh, Gathered, Met, Joined, Paired, PairedAt, PairedOne, ClosedBelow, Grew, Overfull, Step}
@@ -55,7 +55,7 @@ joined_one x g h c d (inr k) (inl m) = absurd (plus_minus (sym m.plus ∙ k.minu
     plus_minus e = let z : ◌≡◌ {A = ℕ} 0 1 = cc in omega arith
 joined_one x g h c d (inr k) (inr m) = same_signs 0 c d k.spelled m.spelled (λ p. ⊎_elim (λ e. ap (sign_at c) e ∙ k.dropped ∙ sym m.dropped ∙ ap (sign_at d) (sym e)) (λ ne. k.others p ne ∙ sym (m.others p ne)) (cases_eq p x))
 
-opposed_either : (o u : Option Sign) → opposed o u ≡ true → ((o ≡ Some Plus) × (u ≡ Some Minus)) ⊎ ((o ≡ Some Minus) × (u ≡ Some Plus))
+opposed_either : (o u : Option Sign) → opposed_signs o u ≡ true → ((o ≡ Some Plus) × (u ≡ Some Minus)) ⊎ ((o ≡ Some Minus) × (u ≡ Some Plus))
 opposed_either None u h = absurd (false≢true h)
 opposed_either (Some Plus) None h = absurd (false≢true h)
 opposed_either (Some Minus) None h = absurd (false≢true h)
@@ -72,13 +72,13 @@ opposed_either (Some Star) (Some Star) h = absurd (false≢true h)
 
 module _ (ps : List ℕ) (g h : Placed) (k : ℕ) (climbs : climbing 0 ps ≡ true) (l : k < length ps) where
   -- groups that have a combination on the lever at a place oppose each other there
-  pub joined_opposed : (c : List Item) → Joined (get_or ps k 0) (spell ps g) (spell ps h) c → opposed (sign_on g k) (sign_on h k) ≡ true
-  joined_opposed c (inl m) = (λ i. opposed ((sym (spelled_sign ps g k climbs l) ∙ m.plus) i) ((sym (spelled_sign ps h k climbs l) ∙ m.minus) i))
-  joined_opposed c (inr m) = (λ i. opposed ((sym (spelled_sign ps g k climbs l) ∙ m.minus) i) ((sym (spelled_sign ps h k climbs l) ∙ m.plus) i))
+  pub joined_opposed : (c : List Item) → Joined (get_or ps k 0) (spell ps g) (spell ps h) c → opposed_signs (sign_on g k) (sign_on h k) ≡ true
+  joined_opposed c (inl m) = (λ i. opposed_signs ((sym (spelled_sign ps g k climbs l) ∙ m.plus) i) ((sym (spelled_sign ps h k climbs l) ∙ m.minus) i))
+  joined_opposed c (inr m) = (λ i. opposed_signs ((sym (spelled_sign ps g k climbs l) ∙ m.minus) i) ((sym (spelled_sign ps h k climbs l) ∙ m.plus) i))
 
   module _ (j : Placed) (signs : (i : ℕ) → sign_on j i ≡ cond (eqb i k) None (joint (sign_on g i) (sign_on h i))) where
     -- where they oppose each other, both together without the lever are the combination
-    pub joined_is : opposed (sign_on g k) (sign_on h k) ≡ true → Joined (get_or ps k 0) (spell ps g) (spell ps h) (spell ps j)
+    pub joined_is : opposed_signs (sign_on g k) (sign_on h k) ≡ true → Joined (get_or ps k 0) (spell ps g) (spell ps h) (spell ps j)
     joined_is o =
         ⊎_elim
         (λ e. inl (joined_over ps g h j k climbs l signs (spelled_sign ps g k climbs l ∙ e.0) (spelled_sign ps h k climbs l ∙ e.1)))

@@ -50,18 +50,18 @@ has_lower (Some Minus) = true
 has_lower (Some Star) = true
 
 -- two signs stand against each other: one is + and the other -
-abbrev pub opposed : Option Sign → Option Sign → Bool
-opposed None t = false
-opposed (Some s) None = false
-opposed (Some Plus) (Some Plus) = false
-opposed (Some Plus) (Some Minus) = true
-opposed (Some Plus) (Some Star) = false
-opposed (Some Minus) (Some Plus) = true
-opposed (Some Minus) (Some Minus) = false
-opposed (Some Minus) (Some Star) = false
-opposed (Some Star) (Some Plus) = false
-opposed (Some Star) (Some Minus) = false
-opposed (Some Star) (Some Star) = false
+abbrev pub opposed_signs : Option Sign → Option Sign → Bool
+opposed_signs None t = false
+opposed_signs (Some s) None = false
+opposed_signs (Some Plus) (Some Plus) = false
+opposed_signs (Some Plus) (Some Minus) = true
+opposed_signs (Some Plus) (Some Star) = false
+opposed_signs (Some Minus) (Some Plus) = true
+opposed_signs (Some Minus) (Some Minus) = false
+opposed_signs (Some Minus) (Some Star) = false
+opposed_signs (Some Star) (Some Plus) = false
+opposed_signs (Some Star) (Some Minus) = false
+opposed_signs (Some Star) (Some Star) = false
 
 -- at one place + comes before -, - before *, and * before no sign: a group with a sign there has its next item earlier
 abbrev pub rank_if : Option Sign → ℕ

@@ -9,7 +9,7 @@ ghost use Rattle.groups.specs.declared.items.Sign.TheVariants.{Plus, Minus, Star
 ghost use Rattle.groups.specs.Items.{joint};
 ghost use Rattle.levers.specs.Sets.{has};
 ghost use Rattle.placed.specs.Laws.{CoversOver, SameOver, CombinesOver, OpposesOver, JoinsOver};
-ghost use Rattle.placed.specs.Signs.{sign_of, sign_on, without_upper, without_lower, has_upper, has_lower, opposed};
+ghost use Rattle.placed.specs.Signs.{sign_of, sign_on, without_upper, without_lower, has_upper, has_lower, opposed_signs};
 
 use groups::items::Sign;
 use levers::Levers;
@@ -93,7 +93,7 @@ impl Placed {
 
     // The places at which one of the groups has + and the other -.
     pub fn opposing(self, other: Placed) -> Levers
-        ensures { (k : ℕ) → has result k ≡ opposed (sign_on self k) (sign_on other k) }
+        ensures { (k : ℕ) → has result k ≡ opposed_signs (sign_on self k) (sign_on other k) }
     {
         self.ends_opposing(other)
     }
@@ -161,7 +161,7 @@ impl Placed {
     fn opposes(self, other: Placed, place: usize) -> bool
         ensures { OpposesOver self other place result }
     {
-        plus_and_minus(self.sign(place), other.sign(place))
+        opposed(self.sign(place), other.sign(place))
     }
 
     // The two joined, as the combination on the lever at a place where this group has + and the other -.
@@ -183,7 +183,7 @@ impl Placed {
 
     // The places at which one group has the upper end alone and the other the lower end alone.
     fn ends_opposing(self, other: Placed) -> Levers
-        ensures { (k : ℕ) → has result k ≡ opposed (sign_on self k) (sign_on other k) }
+        ensures { (k : ℕ) → has result k ≡ opposed_signs (sign_on self k) (sign_on other k) }
     {
         let pluses = self.up.minus(self.down);
         let minuses = self.down.minus(self.up);
@@ -248,7 +248,7 @@ fn with_end(levers: Levers, place: usize, taken: bool) -> Levers
 }
 
 // Whether the first sign is + and the second -.
-fn plus_and_minus(a: Option<Sign>, b: Option<Sign>) -> bool
+fn opposed(a: Option<Sign>, b: Option<Sign>) -> bool
     ensures { Decides result ((a ≡ Some Plus) × (b ≡ Some Minus)) }
 {
     matches!((a, b), (Some(Sign::Plus), Some(Sign::Minus)))

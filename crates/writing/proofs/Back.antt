@@ -1,6 +1,5 @@
 -- What is written of a group spells that group. Assumes nothing.
-use Rattle.std.proofs.Common.{◌≡◌, ℕ, ◌+◌, ◌<◌, ◌≤◌, Bool, true, false, cond, ltb, List, [], ◌∷◌, ◌++◌, length, drop, is_some, Some, None, Ok, Err, decimal, Option, Result, sym, refl, ap, ◌∙◌, subst, subst₂, append_assoc, append-nil, arith}
-use Rattle.std.specs.List.{flat_map}
+use Rattle.std.proofs.Common.{◌≡◌, ℕ, ◌≤◌, Bool, true, false, cond, ltb, List, [], ◌∷◌, ◌++◌, length, drop, is_some, Some, Ok, Err, decimal, Option, Result, sym, refl, ap, ◌∙◌, subst, subst₂, append_assoc, append-nil, arith}
 use Rattle.std.specs.Option.{option_map}
 use Rattle.std.proofs.lemmas.List.{length_push, take_at}
 use Rattle.faults.specs.declared.Fault.{Fault}
@@ -15,7 +14,7 @@ use Rattle.reading.specs.Grammar.{mark_of, item, Items, none, more, Once, Spells
 use Rattle.reading.specs.Numbers.{Numeral}
 use Rattle.reading.specs.Reading.{read_group}
 use Rattle.reading.proofs.Laws.{spelled_read}
-use Rattle.lines.specs.Texts.{item_text, next_text, row_text, group_text, write_answer, write_after}
+use Rattle.lines.specs.Texts.{item_text, row_text, group_text, write_answer, write_after}
 use Rattle.writing.specs.Back.{ReadBack, ReadsBack}
 
 -- a row of items with its last item apart
@@ -55,9 +54,9 @@ last_apart low i (j ∷ is) r =
       text_is =
           append_assoc (item_text i) (32 ∷ row_text (j ∷ is)) (41 ∷ [])
           ∙ append_assoc (decimal i.plate) (mark_of i.sign ∷ []) (32 ∷ (row_text (j ∷ is) ++ (41 ∷ [])))
-          ∙ ap (λ l. decimal i.plate ++ (mark_of i.sign ∷ 32 ∷ l)) rest.text-is
+          ∙ ap (λ l. decimal i.plate ++ (mark_of i.sign ∷ 32 ∷ l)) rest.text_is
           ∙ sym (append_assoc (decimal i.plate) (mark_of i.sign ∷ 32 ∷ rest.front) (decimal rest.p ++ (mark_of rest.s ∷ 41 ∷ [])));
-      items_are = ap (λ l. i ∷ l) rest.items-are;
+      items_are = ap (λ l. i ∷ l) rest.items_are;
     }
 
 once : (low : ℕ) (is : List Item) → rising low is ≡ true → Once is
@@ -77,11 +76,11 @@ spells i is r few =
       s = a.s;
       items = a.items;
       number = a.number;
-      whole = ap (λ l. 40 ∷ l) a.text-is;
-      few = omega (arith, ap length a.items-are, length_push a.its (item a.p a.s));
-      once = subst Once (sym a.items-are) (once 0 (i ∷ is) r);
+      whole = ap (λ l. 40 ∷ l) a.text_is;
+      few = omega (arith, ap length a.items_are, length_push a.its (item a.p a.s));
+      once = subst Once (sym a.items_are) (once 0 (i ∷ is) r);
       rises = r;
-      same = λ q. ap (λ l. sign_at l q) (sym a.items-are);
+      same = λ q. ap (λ l. sign_at l q) (sym a.items_are);
     }
 
 -- so it is read as that group

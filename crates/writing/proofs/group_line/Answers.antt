@@ -13,7 +13,7 @@ returns c =
     let few = g.few in
     record {
       value =
-          c.put-group.ensures
+          c.put_group.ensures
           ∙ ap (λ l. cut (l ++ group_text (items_of g))) c.new-line.ensures
           ∙ cut_short (group_text (items_of g)) (group_short (items_of g) g.rises (omega (arith, length-take g.count g.items)));
       back = read_back (items_of g) g.rises;

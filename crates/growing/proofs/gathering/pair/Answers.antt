@@ -1,6 +1,6 @@
 use Rattle.std.proofs.Common.{◌≡◌, ℕ, ◌+◌, ◌<◌, true, false, length, sym, ap, ◌∙◌, arith}
 use Rattle.std.proofs.lemmas.Bool.{both_ways}
-use Rattle.placed.specs.Signs.{sign_on, opposed}
+use Rattle.placed.specs.Signs.{sign_on, opposed_signs}
 use Rattle.frames.specs.Fitted.{fitted}
 use Rattle.rows.specs.Rows.{groups_of}
 use Rattle.growing.specs.Gathered.{Paired, PairedAt, asked}
@@ -14,7 +14,7 @@ returns-then-is-none g c =
     let a = asked (g.C.Crew.admitted c.args.crew.now) ps c.args.table.now c.args.line in
     step_none a (groups_of c.args.new.now) (λ news. Paired a news c.args.group c.args.other) c.requires.gathered
     (paired_all a (groups_of c.args.new.now) c.args.group c.args.other (λ k l d j.
-    absurd (both_ways (opposed (sign_on c.args.group k) (sign_on c.args.other k)) (sym (c.opposing.ensures k) ∙ c.is-none.ensures.0 c.if-is-none.true k) (joined_opposed ps c.args.group c.args.other k c.requires.ready.climbs l d j))))
+    absurd (both_ways (opposed_signs (sign_on c.args.group k) (sign_on c.args.other k)) (sym (c.opposing.ensures k) ∙ c.is-none.ensures.0 c.if-is-none.true k) (joined_opposed ps c.args.group c.args.other k c.requires.ready.climbs l d j))))
 
 pub loop-place-init : goal.loop-place-init
 loop-place-init g c = record { gathered = c.requires.gathered; grew = grew_none (groups_of c.args.new.now); goal = λ k l. absurd (omega arith) }

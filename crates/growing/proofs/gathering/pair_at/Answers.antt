@@ -1,6 +1,6 @@
 use Rattle.std.proofs.Common.{◌≡◌, true, false, sym, ◌∙◌}
 use Rattle.std.proofs.lemmas.Bool.{both_ways}
-use Rattle.placed.specs.Signs.{sign_on, opposed}
+use Rattle.placed.specs.Signs.{sign_on, opposed_signs}
 use Rattle.placed.specs.Spelling.{spell}
 use Rattle.frames.specs.Fitted.{fitted}
 use Rattle.rows.specs.Rows.{groups_of}
@@ -14,9 +14,9 @@ returns-then-not-has g c =
     let ps = fitted c.args.plates.now in
     let a = asked (g.C.Crew.admitted c.args.crew.now) ps c.args.table.now c.args.line in
     let k = c.args.place in
-    let none : opposed (sign_on c.args.group k) (sign_on c.args.other k) ≡ false = sym (c.opposing.ensures k) ∙ sym c.has.ensures ∙ c.if-not-has.true in
+    let none : opposed_signs (sign_on c.args.group k) (sign_on c.args.other k) ≡ false = sym (c.opposing.ensures k) ∙ sym c.has.ensures ∙ c.if-not-has.true in
     step_none a (groups_of c.args.new.now) (λ news. PairedAt a news c.args.group c.args.other k) c.requires.gathered
-    (λ d j. absurd (both_ways (opposed (sign_on c.args.group k) (sign_on c.args.other k)) none (joined_opposed ps c.args.group c.args.other k c.requires.ready.climbs c.requires.place d j)))
+    (λ d j. absurd (both_ways (opposed_signs (sign_on c.args.group k) (sign_on c.args.other k)) none (joined_opposed ps c.args.group c.args.other k c.requires.ready.climbs c.requires.place d j)))
 
 pub consider-requires : goal.consider-requires
 consider-requires g c =

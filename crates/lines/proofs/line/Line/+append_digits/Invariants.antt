@@ -1,4 +1,4 @@
 use Rattle.lines.proofs.line.Line.+append_digits.Given as goal
 
-abbrev pub decreases-append-digits : goal.decreases-append-digits
-decreases-append-digits l = l.number
+abbrev pub decreases-append_digits : goal.decreases-append_digits
+decreases-append_digits l = l.number

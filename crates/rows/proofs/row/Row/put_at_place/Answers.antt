@@ -4,10 +4,7 @@ use Rattle.rows.proofs.Counts.{left_place}
 use Rattle.rows.proofs.row.Row.put_at_place.Goals as goal
 
 pub invariant_of-self : goal.invariant_of-self
-invariant_of-self g c = record {
-  long = c.put_among.ensures.long;
-  few = omega (arith, left_place c.args.self.now c.requires, c.args.self.now.long);
-}
+invariant_of-self g c = record { long = c.put_among.ensures.long; few = omega (arith, left_place c.args.self.now c.requires, c.args.self.now.long) }
 
 pub returns : goal.returns
 returns g c = record {

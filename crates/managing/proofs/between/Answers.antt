@@ -4,7 +4,7 @@ use Rattle.meaning.specs.Frames.{starred, stars}
 use Rattle.placed.specs.Spelling.{spell}
 use Rattle.managing.proofs.Stars.{stars_more, stars_same}
 use Rattle.managing.proofs.between.Goals as goal
-use Rattle.managing.proofs.between.Goals.{then-is-star, else-is-star}
+use Rattle.managing.proofs.between.Goals.{then-is_star, else-is_star}
 
 pub loop-place-preserved : goal.loop-place-preserved
 loop-place-preserved c =
@@ -12,17 +12,17 @@ loop-place-preserved c =
     let n = c.loop-place.place in
     let group = c.args.group in
     let inv = c.loop-place.invariant in
-    elim c.if-is-star.branch [
-      | then-is-star w ↦ (
+    elim c.if-is_star.branch [
+      | then-is_star w ↦ (
         omega (arith, w.count-is),
         (λ i. take (w.count-is i) (w.moving-is i))
             ∙ take_more_set c.loop-place.moving c.loop-place.count (get_or ps n 0) (omega (arith, c.requires.room, c.loop-place.auto.moving, c.loop-place-test.true))
             ∙ ap (λ xs. xs ++ (get_or ps n 0 ∷ [])) inv.1
-            ∙ sym (stars_more ps n group c.loop-place-test.true (ap starred (sym c.sign.ensures) ∙ sym c.is-star.ensures ∙ w.if-is-star.true)),
+            ∙ sym (stars_more ps n group c.loop-place-test.true (ap starred (sym c.sign.ensures) ∙ sym c.is_star.ensures ∙ w.if-is_star.true)),
       )
-      | else-is-star w ↦ (
+      | else-is_star w ↦ (
         omega (arith, w.count-is),
-        (λ i. take (w.count-is i) (w.moving-is i)) ∙ inv.1 ∙ sym (stars_same ps n group c.loop-place-test.true (ap starred (sym c.sign.ensures) ∙ sym c.is-star.ensures ∙ w.if-is-star.false)),
+        (λ i. take (w.count-is i) (w.moving-is i)) ∙ inv.1 ∙ sym (stars_same ps n group c.loop-place-test.true (ap starred (sym c.sign.ensures) ∙ sym c.is_star.ensures ∙ w.if-is_star.false)),
       )
     ]
 

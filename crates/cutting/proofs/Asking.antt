@@ -8,11 +8,12 @@ use Rattle.groups.specs.Items.{sign_at}
 use Rattle.groups.specs.Rises.{climbing}
 use Rattle.groups.proofs.Climbing.{place_cases}
 use Rattle.meaning.specs.States.{State, holds, Setting, shows, shows_any}
+use Rattle.meaning.specs.Shown.{sign_for}
 use Rattle.meaning.specs.Crews.{Admits, Lawful}
 use Rattle.meaning.specs.Frames.{Frame, Sound, is_one_of, group_over, moving, starred, stars, manageable, permits}
 use Rattle.meaning.specs.CutLists.{Superfluous, Needed}
 use Rattle.meaning.specs.Laws.{Excluded}
-use Rattle.meaning.proofs.Ends.{sign_for, states_of, shows_has}
+use Rattle.meaning.proofs.Ends.{states_of, shows_has}
 use Rattle.meaning.proofs.Fitted.{names_fitted}
 use Rattle.meaning.proofs.Managed.{starred_within, stars_over, fewer_kept}
 use Rattle.meaning.proofs.Resting.{rest, any_less, rest_shows, rest_less, rest_moving}

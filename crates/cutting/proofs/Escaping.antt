@@ -10,9 +10,10 @@ use Rattle.groups.specs.Items.{sign_at}
 use Rattle.groups.specs.Rises.{climbing}
 use Rattle.groups.proofs.Climbing.{place_cases}
 use Rattle.meaning.specs.States.{State, normal, reversed, between, Setting, shows, shows_any}
+use Rattle.meaning.specs.Shown.{sign_for}
 use Rattle.meaning.specs.Laws.{Excluded}
 use Rattle.meaning.proofs.Covered.{shown_any}
-use Rattle.meaning.proofs.Ends.{upper, lower, ends, Within, sign_for, states_of, shows_has, has_shows, shows_covered}
+use Rattle.meaning.proofs.Ends.{upper, lower, ends, Within, states_of, shows_has, has_shows, shows_covered}
 use Rattle.meaning.proofs.Resting.{rest_at, rest, rest_shows}
 use Rattle.placed.specs.declared.Placed.{Placed}
 use Rattle.placed.specs.Signs.{sign_on}

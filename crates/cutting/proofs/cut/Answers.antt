@@ -9,8 +9,8 @@ use Rattle.cutting.proofs.Flagged.{kept_on}
 use Rattle.cutting.proofs.Marking.{cut_same}
 use Rattle.cutting.proofs.cut.Goals as goal
 
-pub mark-all-requires : goal.mark-all-requires
-mark-all-requires g c =
+pub mark_all-requires : goal.mark_all-requires
+mark_all-requires g c =
     let row = c.args.lines.now in
     let few : length c.all-all.result.now ≤ 128 = omega (arith, ap length c.all-all.ensures, taken row, row.few) in
     record {
@@ -22,10 +22,10 @@ pub returns : goal.returns
 returns g c =
     let ps = fitted c.args.plates.now in
     let all = c.all-all.result.now in
-    let on = c.mark-all.new.on in
+    let on = c.mark_all.new.on in
     let is = c.all-all.ensures in
     let within = Within (length ps) in
     record {
-      cut = cut_same (g.C.Crew.admitted c.args.crew.now) ps (groups_of c.args.lines.now) all (groups_of c.kept.result) (on_lines on all) is c.kept.ensures c.mark-all.ensures;
+      cut = cut_same (g.C.Crew.admitted c.args.crew.now) ps (groups_of c.args.lines.now) all (groups_of c.kept.result) (on_lines on all) is c.kept.ensures c.mark_all.ensures;
       within = λ a. kept_on within on (groups_of c.args.lines.now) all (groups_of c.kept.result) is c.kept.ensures a;
     }

@@ -21,7 +21,8 @@ in_table g h = if before g h then Less else (if before h g then Greater else Equ
 unfoldable pub own_items : Placed → List Item
 own_items g = spell (range_with_len 1 (g.up.bits + g.down.bits)) g
 
--- which of two groups of ends comes first, where their items do not say: they always do, and the laws follow sooner so
+-- the ends, where the items do not say. Groups of the same items have the same ends, so this never tells two apart; with it
+-- `order` is by its form equal only where `==` is
 abbrev pub by_ends : Placed → Placed → Ordering
 by_ends = then_cmp (on (λ g. g.up.bits) nat_cmp) (on (λ g. g.down.bits) nat_cmp)
 

@@ -1,12 +1,12 @@
 // The table's order on groups: by number of items first, and at equal numbers by the signs at the lowest place at which the
-// two differ. specs/Laws.antt states it in the words of the spelled items.
-ghost use Rattle.std.specs.Prelude.{◌≡◌, length, IsSomeAnd};
+// two differ. specs/Laws.antt states it in the words of the spelled items, and specs/Order.antt has it as a function, as std's
+// traits ask: proofs/Own.antt shows that this function orders so over any frame.
+ghost use Rattle.std.specs.Prelude.{◌≡◌, length, IsSomeAnd, refl};
+ghost use Rattle.std.specs.Cmp.{partial_order_from_agreeing_total};
+ghost use Rattle.std.specs.Ordering.{as_partial_cmp};
 ghost use Rattle.placed.specs.Laws.{CountsOver, DiffersFirst, EarlierOver, OrdersOver};
 ghost use Rattle.placed.specs.Order.{own_items, order, order_total, order_ties};
 ghost use Rattle.placed.specs.Signs.{rank_if};
-ghost use Rattle.std.specs.Ordering.{as_partial_cmp};
-ghost use Rattle.std.proofs.Common.{refl};
-ghost use Rattle.std.specs.Cmp.{partial_order_from_agreeing_total};
 
 use super::Placed;
 use groups::items::Sign;

@@ -1,18 +1,18 @@
 -- Groups gathered to the end, with those of the table, are all that is forbidden with one more line. Assumes nothing.
-use Rattle.std.proofs.Common.{◌≡◌, ℕ, zero, suc, ◌+◌, ◌<◌, ◌≤◌, Bool, true, false, cond, not, ◌&&◌, ◌||◌, ◌⊎◌, List, [], ◌∷◌, ◌++◌, map, length, get_or, Some, None, Decides, Option, sym, refl, ap, ◌∙◌, subst, inl, inr, ⊎_elim, arith}
+use Rattle.std.proofs.Common.{◌≡◌, ℕ, zero, suc, ◌<◌, true, false, not, ◌||◌, ◌⊎◌, List, [], ◌∷◌, ◌++◌, length, get_or, Some, Decides, Option, sym, refl, ap, ◌∙◌, subst, inl, inr, ⊎_elim, arith}
 use Rattle.std.specs.List.{ContainsAt as Has, AllByRecursion}
-use Rattle.std.proofs.ByRecursion.{all-has, all_has_itself, All-weaker, All-get_or, All-append, has_push_cases, has_append_left, has_append_right}
-use Rattle.std.proofs.lemmas.Bool.{and_from, or_cases, or_left, or_right, cases_Bool, cases_order, both_ways, false≢true, not_from_false}
+use Rattle.std.proofs.ByRecursion.{all-has, all_has_itself, All-weaker, All-get_or, All-append, has_push_cases}
+use Rattle.std.proofs.lemmas.Bool.{and_from, or_left, cases_Bool, cases_order, both_ways, false≢true, not_from_false}
 use Rattle.groups.specs.declared.items.Item.{Item}
 use Rattle.groups.specs.declared.items.Sign.{Sign}
-use Rattle.groups.specs.declared.items.Sign.TheVariants.{Plus, Minus, Star}
+use Rattle.groups.specs.declared.items.Sign.TheVariants.{Plus, Minus}
 use Rattle.groups.specs.Items.{rising, sign_at, covers, Combination}
 use Rattle.groups.proofs.Climbing.{place_cases}
-use Rattle.meaning.specs.States.{Setting, normal, shows, shows_any}
-use Rattle.meaning.specs.Frames.{Frame, Sound, group_over, stars, moving, manageable, permits, possible, Forbidden, Shortest}
+use Rattle.meaning.specs.States.{Setting, shows_any}
+use Rattle.meaning.specs.Frames.{Frame, Sound, group_over, stars, moving, manageable, possible, Forbidden, Shortest}
 use Rattle.meaning.specs.Tables.{IsTable, in_order, covered_by}
-use Rattle.meaning.specs.Laws.{read_off, with_line, Excluded, Closed}
-use Rattle.meaning.proofs.Ends.{End, upper, lower, ends, covers_has, has_covers, covers_same, covers_trans}
+use Rattle.meaning.specs.Laws.{with_line, Closed}
+use Rattle.meaning.proofs.Ends.{End, upper, lower, ends, has_covers, covers_same, covers_trans}
 use Rattle.meaning.proofs.Fitted.{over_parts}
 use Rattle.meaning.proofs.Combining.{combination_is_forbidden}
 use Rattle.meaning.proofs.Complete.{method_is_complete}
@@ -20,19 +20,18 @@ use Rattle.meaning.proofs.Covered.{Cover, covered_cover, cover_covered, shown_an
 use Rattle.meaning.proofs.Cuts.{shows_append}
 use Rattle.meaning.proofs.Members.{has_none, has_first, has_later, has_cases}
 use Rattle.meaning.proofs.OneMore.{one_more_line, with_line_sound}
-use Rattle.meaning.proofs.Plain.{nothing_possible}
 use Rattle.meaning.proofs.Resting.{rest, rest_less, rest_moving, any_less, excluded_forbidden, forbidden_excluded}
 use Rattle.meaning.proofs.Shrinking.{table_covers}
-use Rattle.meaning.proofs.SomeCutList.{Failing, setting_fails}
+use Rattle.meaning.proofs.SomeCutList.{setting_fails}
 use Rattle.meaning.proofs.Trial.{every_setting, excludes, excluded_tried}
 use Rattle.placed.specs.declared.Placed.{Placed}
-use Rattle.placed.specs.Signs.{sign_on, has_upper, has_lower}
+use Rattle.placed.specs.Signs.{has_upper, has_lower}
 use Rattle.placed.specs.Spelling.{spell}
 use Rattle.placed.proofs.Ends.{blank}
 use Rattle.placed.proofs.Spelled.{spelled_none, spelled_rises}
 use Rattle.rows.specs.Rows.{spell_all}
 use Rattle.telling.proofs.Drops.{spell_over, spell_all_over}
-use Rattle.growing.specs.Gathered.{Asked, told_of, Fresh, Apart, Gathered, Met, Joined, Paired, PairedOne, Complete, Ready, Possible}
+use Rattle.growing.specs.Gathered.{Asked, told_of, Fresh, Gathered, Met, Joined, Paired, Complete, Ready, Possible}
 use Rattle.growing.proofs.Taken.{covered_append}
 
 -- ## Lists of spelled groups

@@ -1,9 +1,7 @@
 -- A table grown line by line. Assumes nothing.
-use Rattle.std.proofs.Common.{◌≡◌, ℕ, ◌+◌, ◌<◌, ◌≤◌, true, false, ◌⊎◌, List, [], ◌∷◌, ◌++◌, map, length, get_or, take, Some, None, Ok, Err, Option, Result, sym, refl, ap, ◌∙◌, subst, inl, inr, ⊎_elim, arith}
-use Rattle.std.specs.List.{AllByRecursion}
+use Rattle.std.proofs.Common.{◌≡◌, ℕ, ◌+◌, ◌<◌, true, List, [], ◌∷◌, ◌++◌, length, get_or, take, Some, None, Ok, Err, Option, sym, refl, ap, ◌∙◌, subst, ⊎_elim, arith}
 use Rattle.std.proofs.lemmas.List.{map_more, length-map}
 use Rattle.std.proofs.lemmas.Bool.{cases_lt}
-use Rattle.groups.specs.declared.items.Item.{Item}
 use Rattle.groups.specs.Rises.{climbing}
 use Rattle.meaning.specs.Crews.{Admits, Lawful}
 use Rattle.meaning.specs.Frames.{Frame, Sound}
@@ -13,7 +11,6 @@ use Rattle.meaning.proofs.OneTable.{one_table}
 use Rattle.meaning.proofs.OneMore.{with_line_sound}
 use Rattle.meaning.proofs.Plain.{no_lines_no_table, nothing_possible}
 use Rattle.placed.specs.declared.Placed.{Placed}
-use Rattle.placed.specs.Signs.{Within, sign_on}
 use Rattle.placed.specs.Spelling.{spell}
 use Rattle.rows.specs.declared.row.Row.{Row}
 use Rattle.rows.specs.Rows.{groups_of, spell_all, AllWithin}
@@ -22,7 +19,7 @@ use Rattle.telling.proofs.Drops.{spell_over, spell_all_over}
 use Rattle.managing.specs.Standing.{frame_of}
 use Rattle.growing.specs.declared.Stop.{Stop}
 use Rattle.growing.specs.declared.Stop.TheVariants.{NothingPossible, TooMany}
-use Rattle.growing.specs.Growth.{Oversized, Fits, FitBelow, FromLines, GrowsTo, NextTo, TableIf, OnlyEmpty, StoppedAs, WithinOk}
+use Rattle.growing.specs.Growth.{Fits, FitBelow, GrowsTo, NextTo, TableIf, OnlyEmpty, StoppedAs}
 use Rattle.growing.specs.Merging.{WithinSome}
 use Rattle.growing.proofs.Whole.{spell_empty}
 

@@ -1,27 +1,25 @@
 -- Merging, one group after the other. Assumes nothing.
-use Rattle.std.proofs.Common.{◌≡◌, ℕ, zero, suc, ◌+◌, ◌<◌, ◌≤◌, Bool, true, false, cond, not, ◌&&◌, ◌||◌, ltb, ◌⊎◌, List, [], ◌∷◌, ◌++◌, map, length, get_or, take, filter, sym, refl, ap, ◌∙◌, subst, inl, inr, ⊎_elim, arith}
-use Rattle.std.specs.List.{ContainsAt as Has, AllByRecursion}
+use Rattle.std.proofs.Common.{◌≡◌, ℕ, zero, suc, ◌+◌, ◌<◌, Bool, true, false, cond, not, ◌⊎◌, List, [], ◌∷◌, ◌++◌, length, get_or, take, filter, sym, refl, ap, ◌∙◌, subst, inl, inr, ⊎_elim, arith}
+use Rattle.std.specs.List.{ContainsAt as Has}
 use Rattle.std.proofs.lemmas.List.Elements.{filter_more}
-use Rattle.std.proofs.ByRecursion.{all-has, All-get_or, all_kept_by, All-weaker, has_push_cases, has_push, has_append_left, all_has_itself, All-from_get_or, All-map}
+use Rattle.std.proofs.ByRecursion.{all-has, All-get_or, all_kept_by, All-weaker, has_push_cases, has_push, has_append_left, all_has_itself}
 use Rattle.std.proofs.lemmas.List.{append-nil, map_more, length-take-le, get_or-take}
-use Rattle.std.proofs.lemmas.Bool.{and_parts, and_from, or_left, cond-true, cond-false, cases_Bool, both_ways, false≢true, not_from_true, not_from_false, not-true, not-false, ltb-false}
+use Rattle.std.proofs.lemmas.Bool.{and_parts, and_from, cond-true, cond-false, both_ways, not_from_true, not_from_false, not-true}
 use Rattle.groups.specs.declared.items.Item.{Item}
 use Rattle.groups.specs.Items.{covers}
-use Rattle.groups.specs.Rises.{climbing}
 use Rattle.meaning.specs.Tables.{before, before_all, in_order, put_in_order, covered_by}
 use Rattle.meaning.proofs.Covered.{cover_covered}
 use Rattle.meaning.proofs.Ends.{covers_itself}
 use Rattle.meaning.proofs.Members.{has_none, has_first, has_later, has_cases}
-use Rattle.meaning.proofs.SomeTable.{before_all_lem, place_new, place_old, place_all, place_order}
+use Rattle.meaning.proofs.SomeTable.{place_new, place_old, place_all, place_order}
 use Rattle.placed.specs.declared.Placed.{Placed}
 use Rattle.placed.specs.Signs.{Within}
 use Rattle.placed.specs.Spelling.{spell}
 use Rattle.placed.proofs.Spelled.{spelled_rises}
 use Rattle.rows.specs.Rows.{spell_all, AllWithin}
-use Rattle.telling.specs.Told.{Holds}
 use Rattle.growing.specs.Gathered.{Apart}
-use Rattle.growing.specs.Merging.{uncovered_of, Mergeable, MergedUpto, MergeFull}
-use Rattle.growing.proofs.Grown.{Spelled, has_spelled, spelled_has}
+use Rattle.growing.specs.Merging.{uncovered_of, Mergeable, MergedUpto}
+use Rattle.growing.proofs.Grown.{has_spelled, spelled_has}
 
 -- ## The groups that stay
 

@@ -1,13 +1,13 @@
 -- Two groups combined, lever by lever. Assumes nothing.
-use Rattle.std.proofs.Common.{◌≡◌, ℕ, ◌+◌, ◌<◌, ◌≤◌, Bool, true, false, cond, ◌||◌, eqb, ◌⊎◌, List, [], ◌∷◌, ◌++◌, length, get_or, take, Some, None, Option, sym, refl, ap, ◌∙◌, subst, inl, inr, ⊎_elim, arith}
+use Rattle.std.proofs.Common.{◌≡◌, ℕ, ◌+◌, ◌<◌, ◌≤◌, Bool, true, false, cond, eqb, ◌⊎◌, List, ◌++◌, length, get_or, take, Some, None, Option, sym, refl, ap, ◌∙◌, subst, inl, inr, ⊎_elim, arith}
 use Rattle.std.specs.List.{AllByRecursion}
 use Rattle.std.proofs.ByRecursion.{All-weaker, All-more, All-get_or}
-use Rattle.std.proofs.lemmas.List.{append_assoc, append-nil, get_or_append_left, get_or_default, length-append}
-use Rattle.std.proofs.lemmas.Bool.{cases_eq, cases_lt, cond-true, cond-false, eq-eqb, ne_eqb, false≢true, both_ways}
+use Rattle.std.proofs.lemmas.List.{append_assoc, get_or_append_left, get_or_default, length-append}
+use Rattle.std.proofs.lemmas.Bool.{cases_eq, cases_lt, cond-false, ne_eqb, false≢true}
 use Rattle.groups.specs.declared.items.Item.{Item}
 use Rattle.groups.specs.declared.items.Sign.{Sign}
 use Rattle.groups.specs.declared.items.Sign.TheVariants.{Plus, Minus, Star}
-use Rattle.groups.specs.Items.{sign_at, joint, Combination}
+use Rattle.groups.specs.Items.{sign_at, joint}
 use Rattle.groups.specs.Rises.{climbing}
 use Rattle.groups.proofs.Climbing.{place_cases}
 use Rattle.groups.proofs.Rising.{same_signs}
@@ -15,7 +15,7 @@ use Rattle.placed.specs.declared.Placed.{Placed}
 use Rattle.placed.specs.Signs.{Within, sign_on, opposed_signs}
 use Rattle.placed.specs.Spelling.{spell}
 use Rattle.placed.proofs.Spelled.{spelled_sign, spelled_none, joined_over}
-use Rattle.growing.specs.Gathered.{Asked, Fresh, Gathered, Met, Joined, Paired, PairedAt, PairedOne, ClosedBelow, Grew, Overfull, Step}
+use Rattle.growing.specs.Gathered.{Asked, Fresh, Gathered, Met, Joined, Paired, PairedAt, PairedOne, ClosedBelow, Grew, Step}
 use Rattle.growing.proofs.Taken.{met_grew}
 
 -- ## Steps one after the other
@@ -92,7 +92,7 @@ module _ (ps : List ℕ) (g h : Placed) (k : ℕ) (climbs : climbing 0 ps ≡ tr
 pub met_joined : (a : Asked) (new : List Placed) (g h j : Placed) (k : ℕ) → Joined (get_or a.plates k 0) (spell a.plates g) (spell a.plates h) (spell a.plates j) → Met a new (spell a.plates j) → PairedAt a new g h k
 met_joined a new g h j k is m c joined = subst (Met a new) (joined_one (get_or a.plates k 0) (spell a.plates g) (spell a.plates h) (spell a.plates j) c is joined) m
 
--- ## AllByRecursion levers
+-- ## All levers
 
 -- the combinations on the levers at all places are all there are
 pub paired_all : (a : Asked) (new : List Placed) (g h : Placed) → ((k : ℕ) → k < length a.plates → PairedAt a new g h k) → Paired a new g h

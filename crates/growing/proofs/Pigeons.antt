@@ -1,12 +1,12 @@
 -- A list of different elements is no longer than a list that has them all. Assumes nothing.
-use Rattle.std.proofs.Common.{◌≡◌, ℕ, zero, suc, ◌<◌, ◌≤◌, Bool, true, false, ◌⊎◌, List, [], ◌∷◌, length, get_or, sym, refl, ap, ◌∙◌, subst, inl, inr, ⊎_elim, arith}
+use Rattle.std.proofs.Common.{◌≡◌, ℕ, zero, suc, ◌<◌, ◌≤◌, true, false, List, [], ◌∷◌, length, get_or, sym, refl, ap, ◌∙◌, subst, ⊎_elim, arith}
 use Rattle.std.specs.List.{ContainsAt as Has, AllByRecursion}
 use Rattle.std.proofs.ByRecursion.{all-has, all_has_itself, All-map, All-weaker}
-use Rattle.std.proofs.lemmas.Bool.{and_parts, both_ways, false≢true}
+use Rattle.std.proofs.lemmas.Bool.{and_parts, both_ways}
 use Rattle.groups.specs.declared.items.Item.{Item}
 use Rattle.groups.specs.Items.{covers}
 use Rattle.groups.specs.Rises.{climbing}
-use Rattle.meaning.specs.Tables.{before, before_all, in_order}
+use Rattle.meaning.specs.Tables.{before_all, in_order}
 use Rattle.meaning.proofs.Ends.{covers_itself}
 use Rattle.meaning.proofs.Members.{has_none, has_first, has_later, has_cases}
 use Rattle.meaning.proofs.OneTable.{before_each}

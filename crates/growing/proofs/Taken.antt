@@ -1,16 +1,15 @@
 -- One group taken in, or met already. Assumes nothing.
-use Rattle.std.proofs.Common.{◌≡◌, ℕ, ◌+◌, ◌<◌, ◌≤◌, Bool, true, false, cond, not, ◌&&◌, ◌||◌, ltb, ◌⊎◌, List, [], ◌∷◌, ◌++◌, map, length, sym, refl, ap, ◌∙◌, subst, inl, inr, ⊎_elim, arith}
-use Rattle.std.specs.List.{AllByRecursion}
+use Rattle.std.proofs.Common.{◌≡◌, ℕ, ◌≤◌, Bool, true, false, cond, not, ◌||◌, ltb, List, [], ◌∷◌, ◌++◌, length, sym, refl, ap, ◌∙◌, subst, ⊎_elim, arith}
 use Rattle.std.proofs.ByRecursion.{All-push, All-weaker}
 use Rattle.std.proofs.lemmas.List.{append-nil, map-append}
-use Rattle.std.proofs.lemmas.Bool.{or_cases, or_parts, or_left, or_right, or_from, not-true, not-false, cond-true, cond-false, cases_Bool, both_ways, false≢true, ltb-false}
+use Rattle.std.proofs.lemmas.Bool.{or_cases, or_parts, or_left, or_right, or_from, not-true, not-false, cases_Bool, both_ways, false≢true, ltb-false}
 use Rattle.groups.specs.declared.items.Item.{Item}
 use Rattle.groups.specs.Items.{covers}
 use Rattle.groups.specs.Rises.{climbing}
-use Rattle.meaning.specs.Frames.{Frame, Sound, group_over, stars}
+use Rattle.meaning.specs.Frames.{stars}
 use Rattle.meaning.specs.Tables.{covered_by}
 use Rattle.meaning.specs.Crews.{Lawful}
-use Rattle.meaning.proofs.Ends.{covers_has, covers_trans, covers_itself}
+use Rattle.meaning.proofs.Ends.{covers_has, covers_trans}
 use Rattle.meaning.proofs.Managed.{manageable_within}
 use Rattle.telling.proofs.Drops.{spell_over}
 use Rattle.placed.specs.declared.Placed.{Placed}

@@ -1,23 +1,23 @@
 -- Growing as a whole: from what was gathered and merged to the answer. Assumes nothing.
-use Rattle.std.proofs.Common.{◌≡◌, ℕ, suc, ◌+◌, ◌<◌, ◌≤◌, Bool, true, false, ◌||◌, ◌⊎◌, List, [], ◌∷◌, ◌++◌, map, length, get_or, take, None, Ok, Err, sym, refl, ap, ◌∙◌, subst, inl, inr, ⊎_elim, arith}
+use Rattle.std.proofs.Common.{◌≡◌, ℕ, suc, ◌<◌, ◌≤◌, true, false, List, [], ◌∷◌, ◌++◌, length, get_or, take, None, Ok, Err, sym, refl, ap, ◌∙◌, subst, inl, inr, ⊎_elim, arith}
 use Rattle.std.specs.List.{ContainsAt as Has, AllByRecursion}
 use Rattle.std.proofs.ByRecursion.{All-map, All-weaker, all_has_itself}
 use Rattle.std.proofs.lemmas.List.{take_all, length-map, length-append, length-take, get_or-take}
 use Rattle.groups.specs.declared.items.Item.{Item}
-use Rattle.groups.specs.Rises.{climbing, item_if}
-use Rattle.meaning.specs.Frames.{Frame, Sound, Shortest}
-use Rattle.meaning.specs.Tables.{IsTable, in_order, covered_by}
+use Rattle.groups.specs.Rises.{item_if}
+use Rattle.meaning.specs.Frames.{Sound, Shortest}
+use Rattle.meaning.specs.Tables.{IsTable, covered_by}
 use Rattle.placed.specs.declared.Placed.{Placed}
-use Rattle.placed.specs.Signs.{Within, sign_on}
+use Rattle.placed.specs.Signs.{sign_on}
 use Rattle.placed.specs.Spelling.{spell, spell_from}
 use Rattle.placed.proofs.Ends.{blank}
 use Rattle.rows.specs.declared.row.Row.{Row}
-use Rattle.rows.specs.Rows.{groups_of, spell_all, AllWithin}
+use Rattle.rows.specs.Rows.{groups_of, spell_all}
 use Rattle.growing.specs.declared.Stop.TheVariants.{NothingPossible, TooMany}
 use Rattle.growing.specs.Gathered.{Asked, told_of, Fresh, Gathered, Complete, Overfull, Ready}
 use Rattle.growing.specs.Growth.{Oversized, GrowsTo}
 use Rattle.growing.specs.Merging.{Mergeable, MergedUpto, MergeFull}
-use Rattle.growing.proofs.Grown.{frame, table_items, grown_frame, Merged, merged_table, merged_shortest, fresh_shortest, new_shortest, old_shortest, has_spelled, spelled_has, nothing_left, something_left}
+use Rattle.growing.proofs.Grown.{frame, table_items, grown_frame, merged_table, fresh_shortest, new_shortest, old_shortest, has_spelled, spelled_has, nothing_left, something_left}
 use Rattle.growing.proofs.Merges.{not_there}
 use Rattle.growing.proofs.Pigeons.{Different, no_longer, order_different, apart_different}
 use Rattle.growing.proofs.Taken.{gathered_within}

@@ -1,4 +1,4 @@
-use Rattle.std.proofs.Common.{◌≡◌, ◌+◌, ◌<◌, [], length, get_or, take, Some, None, sym, ap, ◌∙◌, subst, arith}
+use Rattle.std.proofs.Common.{◌+◌, length, Some, None, sym, subst, arith}
 use Rattle.std.proofs.ByRecursion.{All-get_or}
 use Rattle.std.proofs.lemmas.List.{take_all}
 use Rattle.meaning.specs.Tables.{IsTable}
@@ -7,7 +7,6 @@ use Rattle.placed.proofs.Ends.{blank}
 use Rattle.frames.specs.Fitted.{fitted}
 use Rattle.rows.specs.Rows.{groups_of, spell_all, AllWithin}
 use Rattle.managing.specs.Standing.{frame_of}
-use Rattle.growing.specs.Growth.{FitBelow}
 use Rattle.growing.proofs.Lines.{from_none, fits_row, fit_more, next_table}
 use Rattle.growing.proofs.grow_all.Goals as goal
 

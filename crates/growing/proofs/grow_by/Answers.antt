@@ -1,19 +1,16 @@
-use Rattle.std.proofs.Common.{◌≡◌, ℕ, ◌≤◌, Bool, true, false, List, [], length, Ok, Err, sym, ap, ◌∙◌, subst, arith}
+use Rattle.std.proofs.Common.{◌≡◌, ◌≤◌, List, [], length, Ok, Err, sym, ap, ◌∙◌, subst, arith}
 use Rattle.std.proofs.lemmas.List.{length-take-le}
-use Rattle.meaning.specs.Laws.{read_off}
 use Rattle.placed.specs.declared.Placed.{Placed}
 use Rattle.placed.specs.Signs.{Within}
-use Rattle.placed.specs.Spelling.{spell}
 use Rattle.meaning.specs.Crews.{Admits}
 use Rattle.frames.specs.declared.plates.Plates.{Plates}
 use Rattle.frames.specs.Fitted.{fitted}
-use Rattle.rows.specs.Rows.{groups_of, spell_all, AllWithin}
+use Rattle.rows.specs.Rows.{groups_of, AllWithin}
 use Rattle.rows.proofs.Counts.{taken}
 use Rattle.telling.specs.Told.{Holds}
 use Rattle.growing.specs.declared.Stop.TheVariants.{NothingPossible, TooMany}
 use Rattle.growing.specs.Gathered.{Asked, Ready, Gathered, Complete, asked, told_of}
 use Rattle.growing.specs.Growth.{GrowsTo}
-use Rattle.growing.specs.Merging.{Mergeable, MergedUpto, MergeFull}
 use Rattle.growing.proofs.Taken.{gathered_within}
 use Rattle.growing.proofs.Whole.{spell_empty, answer_nothing, answer_overfull, answer_full, answer_table}
 use Rattle.growing.proofs.grow_by.Goals as goal

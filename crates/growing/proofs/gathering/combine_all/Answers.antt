@@ -1,4 +1,4 @@
-use Rattle.std.proofs.Common.{◌≡◌, ℕ, ◌+◌, ◌<◌, ◌≤◌, length, sym, ap, ◌∙◌, subst, arith}
+use Rattle.std.proofs.Common.{◌+◌, ◌<◌, length, ap, arith}
 use Rattle.frames.specs.Fitted.{fitted}
 use Rattle.rows.specs.Rows.{groups_of}
 use Rattle.rows.proofs.Counts.{taken}
@@ -13,28 +13,28 @@ loop-at-init g c = (omega arith, record { gathered = c.requires.gathered; grew =
 pub loop-at-smaller : goal.loop-at-smaller
 loop-at-smaller g c = omega (arith, c.loop-at-test.true, ap length c.all.ensures, taken c.loop-at.new, c.loop-at.new.few)
 
-pub combine-one-requires : goal.combine-one-requires
-combine-one-requires g c = record {
+pub combine_one-requires : goal.combine_one-requires
+combine_one-requires g c = record {
   ready = c.requires.ready;
   gathered = c.loop-at.invariant.1.gathered;
   there = omega (arith, c.loop-at-test.true, ap length c.all.ensures);
 }
 
-pub returns-then-not-combine-one : goal.returns-then-not-combine-one
-returns-then-not-combine-one g c =
+pub returns-then-not-combine_one : goal.returns-then-not-combine_one
+returns-then-not-combine_one g c =
     let a = asked (g.C.Crew.admitted c.args.crew.now) (fitted c.args.plates.now) c.args.table.now c.args.line in
-    step_stopped a (groups_of c.args.new.now) (groups_of c.loop-at.new) (groups_of c.combine-one.new.new) c.combine-one.result (PairedOne a c.loop-at.at) (λ n. ClosedBelow a (length n) n)
-    c.if-not-combine-one.true c.loop-at.invariant.1.grew c.combine-one.ensures
+    step_stopped a (groups_of c.args.new.now) (groups_of c.loop-at.new) (groups_of c.combine_one.new.new) c.combine_one.result (PairedOne a c.loop-at.at) (λ n. ClosedBelow a (length n) n)
+    c.if-not-combine_one.true c.loop-at.invariant.1.grew c.combine_one.ensures
 
 pub loop-at-preserved : goal.loop-at-preserved
 loop-at-preserved g c =
     let a = asked (g.C.Crew.admitted c.args.crew.now) (fitted c.args.plates.now) c.args.table.now c.args.line in
     let mid = groups_of c.loop-at.new in
-    let news = groups_of c.combine-one.new.new in
+    let news = groups_of c.combine_one.new.new in
     let k = c.loop-at.at in
     let l : k < length mid = omega (arith, c.loop-at-test.true, ap length c.all.ensures) in (
-      omega (arith, l, grew_length mid news c.combine-one.ensures.grew),
-      way_more a (groups_of c.args.new.now) mid news c.combine-one.result (ClosedBelow a k) (PairedOne a k) (ClosedBelow a (k + 1)) c.if-not-combine-one.false c.loop-at.invariant.1 c.combine-one.ensures
+      omega (arith, l, grew_length mid news c.combine_one.ensures.grew),
+      way_more a (groups_of c.args.new.now) mid news c.combine_one.result (ClosedBelow a k) (PairedOne a k) (ClosedBelow a (k + 1)) c.if-not-combine_one.false c.loop-at.invariant.1 c.combine_one.ensures
           (closed_more a k mid news l),
     )
 

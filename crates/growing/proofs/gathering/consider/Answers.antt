@@ -6,25 +6,25 @@ use Rattle.growing.specs.Gathered.{Met, asked, met_by}
 use Rattle.growing.proofs.Taken.{gathered_within, step_none, met_already}
 use Rattle.growing.proofs.gathering.consider.Goals as goal
 
-pub is-met-requires : goal.is-met-requires
-is-met-requires g c = record {
+pub is_met-requires : goal.is_met-requires
+is_met-requires g c = record {
   ready = c.requires.ready;
   within = subst (AllWithin (length (fitted c.args.plates.now))) (sym c.all.ensures) (gathered_within (asked (g.C.Crew.admitted c.args.crew.now) (fitted c.args.plates.now) c.args.table.now c.args.line) (groups_of c.args.new.now) c.requires.gathered);
 }
 
-pub returns-then-is-met : goal.returns-then-is-met
-returns-then-is-met g c =
+pub returns-then-is_met : goal.returns-then-is_met
+returns-then-is_met g c =
     let a = asked (g.C.Crew.admitted c.args.crew.now) (fitted c.args.plates.now) c.args.table.now c.args.line in
     let item = spell (fitted c.args.plates.now) c.args.group in
-    step_none a (groups_of c.args.new.now) (λ news. Met a news item) c.requires.gathered (met_already a (groups_of c.args.new.now) item (ap (λ gs. met_by a gs item) (sym c.all.ensures) ∙ sym c.is-met.ensures ∙ c.if-is-met.true))
+    step_none a (groups_of c.args.new.now) (λ news. Met a news item) c.requires.gathered (met_already a (groups_of c.args.new.now) item (ap (λ gs. met_by a gs item) (sym c.all.ensures) ∙ sym c.is_met.ensures ∙ c.if-is_met.true))
 
-pub take-in-requires : goal.take-in-requires
-take-in-requires g c =
+pub take_in-requires : goal.take_in-requires
+take_in-requires g c =
     let a = asked (g.C.Crew.admitted c.args.crew.now) (fitted c.args.plates.now) c.args.table.now c.args.line in
     let item = spell (fitted c.args.plates.now) c.args.group in
     record {
       ready = c.requires.ready;
       gathered = c.requires.gathered;
       within = c.requires.within;
-      unmet = ap (λ gs. met_by a gs item) (sym c.all.ensures) ∙ sym c.is-met.ensures ∙ c.if-is-met.false;
+      unmet = ap (λ gs. met_by a gs item) (sym c.all.ensures) ∙ sym c.is_met.ensures ∙ c.if-is_met.false;
     }

@@ -17,8 +17,8 @@ returns-then-not-consider g c =
     let old = groups_of c.args.new.now in
     step_stopped a old old (groups_of c.consider.new.new) c.consider.result (λ n. Met a n (spell ps c.args.line)) (Complete a) c.if-not-consider.true (grew_none old) c.consider.ensures
 
-pub combine-all-requires : goal.combine-all-requires
-combine-all-requires g c = record { ready = c.requires.ready; gathered = c.consider.ensures.gathered }
+pub combine_all-requires : goal.combine_all-requires
+combine_all-requires g c = record { ready = c.requires.ready; gathered = c.consider.ensures.gathered }
 
 pub returns : goal.returns
 returns g c =
@@ -26,10 +26,10 @@ returns g c =
     let a = asked (g.C.Crew.admitted c.args.crew.now) ps c.args.table.now c.args.line in
     let old = groups_of c.args.new.now in
     let mid = groups_of c.consider.new.new in
-    let news = groups_of c.combine-all.new.new in
+    let news = groups_of c.combine_all.new.new in
     let first = c.consider.ensures in
-    let second = c.combine-all.ensures in
-    step_after a old mid news c.combine-all.result (Complete a) first.grew
-    (step_goal a mid news c.combine-all.result (λ n. ClosedBelow a (length n) n) (Complete a)
+    let second = c.combine_all.ensures in
+    step_after a old mid news c.combine_all.result (Complete a) first.grew
+    (step_goal a mid news c.combine_all.result (λ n. ClosedBelow a (length n) n) (Complete a)
     (λ closed. record { line = met_grew a mid news (spell ps c.args.line) second.grew (first.done c.if-not-consider.false); closed = closed })
     second)

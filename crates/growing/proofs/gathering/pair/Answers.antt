@@ -1,4 +1,4 @@
-use Rattle.std.proofs.Common.{◌≡◌, ℕ, ◌+◌, ◌<◌, true, false, length, sym, ap, ◌∙◌, arith}
+use Rattle.std.proofs.Common.{ℕ, ◌+◌, ◌<◌, length, sym, ap, ◌∙◌, arith}
 use Rattle.std.proofs.lemmas.Bool.{both_ways}
 use Rattle.placed.specs.Signs.{sign_on, opposed_signs}
 use Rattle.frames.specs.Fitted.{fitted}
@@ -8,19 +8,19 @@ use Rattle.growing.proofs.Taken.{step_none, grew_none}
 use Rattle.growing.proofs.Pairs.{joined_opposed, paired_all, paired_more, step_stopped, way_more, way_end}
 use Rattle.growing.proofs.gathering.pair.Goals as goal
 
-pub returns-then-is-none : goal.returns-then-is-none
-returns-then-is-none g c =
+pub returns-then-is_none : goal.returns-then-is_none
+returns-then-is_none g c =
     let ps = fitted c.args.plates.now in
     let a = asked (g.C.Crew.admitted c.args.crew.now) ps c.args.table.now c.args.line in
     step_none a (groups_of c.args.new.now) (λ news. Paired a news c.args.group c.args.other) c.requires.gathered
     (paired_all a (groups_of c.args.new.now) c.args.group c.args.other (λ k l d j.
-    absurd (both_ways (opposed_signs (sign_on c.args.group k) (sign_on c.args.other k)) (sym (c.opposing.ensures k) ∙ c.is-none.ensures.0 c.if-is-none.true k) (joined_opposed ps c.args.group c.args.other k c.requires.ready.climbs l d j))))
+    absurd (both_ways (opposed_signs (sign_on c.args.group k) (sign_on c.args.other k)) (sym (c.opposing.ensures k) ∙ c.is_none.ensures.0 c.if-is_none.true k) (joined_opposed ps c.args.group c.args.other k c.requires.ready.climbs l d j))))
 
 pub loop-place-init : goal.loop-place-init
 loop-place-init g c = record { gathered = c.requires.gathered; grew = grew_none (groups_of c.args.new.now); goal = λ k l. absurd (omega arith) }
 
-pub pair-at-requires : goal.pair-at-requires
-pair-at-requires g c = record {
+pub pair_at-requires : goal.pair_at-requires
+pair_at-requires g c = record {
   ready = c.requires.ready;
   gathered = c.loop-place.invariant.gathered;
   group = c.requires.group;
@@ -28,19 +28,19 @@ pair-at-requires g c = record {
   place = omega (arith, c.loop-place-test.true, ap length c.all-place-end.ensures);
 }
 
-pub returns-then-not-pair-at : goal.returns-then-not-pair-at
-returns-then-not-pair-at g c =
+pub returns-then-not-pair_at : goal.returns-then-not-pair_at
+returns-then-not-pair_at g c =
     let a = asked (g.C.Crew.admitted c.args.crew.now) (fitted c.args.plates.now) c.args.table.now c.args.line in
-    step_stopped a (groups_of c.args.new.now) (groups_of c.loop-place.new) (groups_of c.pair-at.new.new) c.pair-at.result (λ news. PairedAt a news c.args.group c.args.other c.loop-place.place) (λ news. Paired a news c.args.group c.args.other)
-    c.if-not-pair-at.true c.loop-place.invariant.grew c.pair-at.ensures
+    step_stopped a (groups_of c.args.new.now) (groups_of c.loop-place.new) (groups_of c.pair_at.new.new) c.pair_at.result (λ news. PairedAt a news c.args.group c.args.other c.loop-place.place) (λ news. Paired a news c.args.group c.args.other)
+    c.if-not-pair_at.true c.loop-place.invariant.grew c.pair_at.ensures
 
 pub loop-place-preserved : goal.loop-place-preserved
 loop-place-preserved g c =
     let a = asked (g.C.Crew.admitted c.args.crew.now) (fitted c.args.plates.now) c.args.table.now c.args.line in
     let k = c.loop-place.place in
-    way_more a (groups_of c.args.new.now) (groups_of c.loop-place.new) (groups_of c.pair-at.new.new) c.pair-at.result
+    way_more a (groups_of c.args.new.now) (groups_of c.loop-place.new) (groups_of c.pair_at.new.new) c.pair_at.result
     (λ news. (j : ℕ) → j < k → PairedAt a news c.args.group c.args.other j) (λ news. PairedAt a news c.args.group c.args.other k) (λ news. (j : ℕ) → j < k + 1 → PairedAt a news c.args.group c.args.other j)
-    c.if-not-pair-at.false c.loop-place.invariant c.pair-at.ensures (paired_more a (groups_of c.loop-place.new) (groups_of c.pair-at.new.new) c.args.group c.args.other k)
+    c.if-not-pair_at.false c.loop-place.invariant c.pair_at.ensures (paired_more a (groups_of c.loop-place.new) (groups_of c.pair_at.new.new) c.args.group c.args.other k)
 
 pub returns : goal.returns
 returns g c =

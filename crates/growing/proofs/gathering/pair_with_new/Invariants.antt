@@ -1,4 +1,4 @@
-use Rattle.std.proofs.Common.{ℕ, ◌<◌, length, get_or}
+use Rattle.std.proofs.Common.{ℕ, ◌<◌, get_or}
 use Rattle.placed.specs.declared.Placed.{Placed}
 use Rattle.frames.specs.Fitted.{fitted}
 use Rattle.rows.specs.Rows.{groups_of}

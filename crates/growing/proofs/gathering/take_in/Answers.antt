@@ -4,7 +4,7 @@ use Rattle.frames.specs.Fitted.{fitted}
 use Rattle.rows.specs.Rows.{groups_of}
 use Rattle.rows.proofs.Counts.{taken}
 use Rattle.telling.specs.Told.{Holds}
-use Rattle.growing.specs.Gathered.{Asked, Met, asked, told_of}
+use Rattle.growing.specs.Gathered.{Met, asked, told_of}
 use Rattle.growing.proofs.Taken.{step_none, met_untold, unmet_managed, short_managed, pushed}
 use Rattle.growing.proofs.gathering.take_in.Goals as goal
 

@@ -1,4 +1,4 @@
-use Rattle.std.proofs.Common.{◌≡◌, ◌<◌, ◌≤◌, true, [], ◌∷◌, ◌++◌, length, get_or, take, sym, ap, ◌∙◌, subst, arith}
+use Rattle.std.proofs.Common.{◌≡◌, ◌<◌, [], ◌∷◌, ◌++◌, length, get_or, sym, ap, ◌∙◌, subst, arith}
 use Rattle.std.proofs.ByRecursion.{All-push, All-get_or}
 use Rattle.std.proofs.lemmas.List.{take_all, length_push}
 use Rattle.std.proofs.lemmas.Bool.{lt-ltb, cond-true}
@@ -16,7 +16,7 @@ loop-group-init c = (omega (arith, ap length c.new-rest.ensures), (λ ps h. c.ne
 pub loop-group-preserved : goal.loop-group-preserved
 loop-group-preserved c =
     let old = groups_of c.loop-group.rest in
-    let i = c.loop-group.group_index in
+    let i = c.loop-group.group-index in
     let l = c.loop-group-test.true in
     let table = c.args.table.now in
     let new = c.args.new.now in
@@ -39,6 +39,6 @@ loop-group-preserved c =
 
 pub returns : goal.returns
 returns c = record {
-  kept = λ ps h. c.loop-group.invariant.1 ps h ∙ ap (uncovered_of ps c.args.new.now) (take_all c.loop-group.group_index c.args.table.now c.loop-group-test.false);
+  kept = λ ps h. c.loop-group.invariant.1 ps h ∙ ap (uncovered_of ps c.args.new.now) (take_all c.loop-group.group-index c.args.table.now c.loop-group-test.false);
   within = c.loop-group.invariant.2;
 }

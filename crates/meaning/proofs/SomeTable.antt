@@ -42,7 +42,7 @@ pub all_of : {X : Type 0} (P : X → Type 0) → ((x : X) → P x) → (xs : Lis
 all_of P h [] = tt
 all_of P h (x ∷ xs) = (h x, all_of P h xs)
 
--- ## AllByRecursion groups
+-- ## All groups
 
 -- the groups over these plates
 pub all_groups : List ℕ → List (List Item)

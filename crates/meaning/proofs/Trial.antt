@@ -14,7 +14,7 @@ use Rattle.meaning.specs.SmallFrames.{plus, minus, star}
 use Rattle.meaning.proofs.Fitted.{over_parts, items_again}
 use Rattle.meaning.proofs.Resting.{forbidden_excluded, excluded_forbidden}
 
--- ## AllByRecursion settings
+-- ## All settings
 
 -- a setting with one lever put into a state
 abbrev pub put : ℕ → State → Setting → Setting
@@ -102,7 +102,7 @@ forbidden_tried f sound g o = (
   (λ forb. and_from (manageable f g) (every_setting f.plates (excludes f.lines g)) forb.managed ((excluded_tried f.plates f.lines g sound.lines o).1 (forbidden_excluded f sound g forb))),
 )
 
--- ## AllByRecursion groups
+-- ## All groups
 
 -- a test holds of all groups over these plates
 abbrev pub every_group : List ℕ → (List Item → Bool) → Bool

@@ -1,6 +1,6 @@
 -- Signs read off the two ends of a lever. Assumes nothing.
-use Rattle.std.proofs.Common.{◌≡◌, ℕ, ◌^◌, ◌<◌, Bool, true, false, cond, not, ◌&&◌, ◌||◌, eqb, ltb, Some, None, Decides, Option, refl, ap, arith}
-use Rattle.std.proofs.lemmas.Bool.{false≢true}
+use Rattle.std.proofs.Common.{◌≡◌, ℕ, ◌^◌, ◌<◌, Bool, true, false, cond, not, ◌&&◌, ◌||◌, eqb, ltb, Some, None, Decides, Option, sym, refl, ap, ◌∙◌, arith}
+use Rattle.std.proofs.lemmas.Bool.{and_parts, and_from, eq-eqb, eqb-true}
 use Rattle.std.proofs.lemmas.Bool.Decides.{nat_tests}
 use Rattle.groups.specs.declared.items.Sign.{Sign}
 use Rattle.groups.specs.declared.items.Sign.TheVariants.{Star}
@@ -71,13 +71,15 @@ same_groups g h s =
     λ i. record { up = u i; down = d i }
 
 -- what `==` on two groups says
-pub equal_groups : (r : Bool) (g h : Placed) → cond {A = Type 0} r (Decides true (g.up.bits ≡ h.up.bits) × Decides true (g.down.bits ≡ h.down.bits)) ((Decides false (g.up.bits ≡ h.up.bits) → ⊥) → (Decides false (g.down.bits ≡ h.down.bits) → ⊥) → ⊥) → Decides r (g ≡ h)
-equal_groups true g h e =
-    let u = e.0.0 refl in
-    let d = e.1.0 refl in
-    ((λ t i. record { up = record { bits = u i }; down = record { bits = d i } }), (λ t. refl))
-equal_groups false g h e =
-    ((λ t. absurd (false≢true t)), (λ q. absurd (e (λ d. false≢true (d.1 (ap (λ x. x.up.bits) q))) (λ d. false≢true (d.1 (ap (λ x. x.down.bits) q))))))
+pub equal_groups : (r : Bool) (g h : Placed) → r ≡ (eqb g.up.bits h.up.bits && eqb g.down.bits h.down.bits) → Decides r (g ≡ h)
+equal_groups r g h e = (
+  (λ t.
+      let b = and_parts _ _ (sym e ∙ t) in
+      let u = eqb-true _ _ b.0 in
+      let d = eqb-true _ _ b.1 in
+      λ i. record { up = record { bits = u i }; down = record { bits = d i } }),
+  (λ q. e ∙ and_from _ _ (eq-eqb _ _ (ap (λ x. x.up.bits) q)) (eq-eqb _ _ (ap (λ x. x.down.bits) q))),
+)
 
 -- a place from 32 on is in no set, so taking it out is taking out none
 pub taken_out : (s : Levers) (p k : ℕ) → s.bits < 2 ^ 32 → (has s k && not (eqb k p)) ≡ cond (eqb k p && ltb p 32) false (has s k)

@@ -1,3 +1,4 @@
 pub mod Ends
 pub mod Ordered
+pub mod Own
 pub mod Spelled

@@ -1,15 +1,14 @@
 -- Which of two groups comes first in a table, read off their signs. Assumes nothing.
-use Rattle.std.proofs.Common.{◌≡◌, ℕ, zero, suc, ◌+◌, ◌<◌, ◌≤◌, Bool, true, false, cond, not, ◌&&◌, ◌||◌, List, [], ◌∷◌, ◌++◌, length, is_some, IsSomeAnd, Some, None, Option, Ordering, Less, Equal, Greater, sym, refl, ap, ◌∙◌, ⊎_elim, arith}
-use Rattle.std.specs.Ordering.{Tested, is_lt}
+use Rattle.std.proofs.Common.{◌≡◌, ℕ, zero, suc, ◌+◌, ◌<◌, ◌≤◌, Bool, true, false, cond, not, ◌&&◌, ◌||◌, List, [], ◌∷◌, ◌++◌, length, is_some, Some, None, Option, Ordering, Less, Equal, Greater, sym, refl, ap, ◌∙◌, ⊎_elim, arith}
+use Rattle.std.specs.List.{range_with_len}
+use Rattle.std.specs.Ordering.{is_lt}
+use Rattle.std.proofs.lemmas.List.FromFn.{length-range_with_len}
 use Rattle.std.proofs.lemmas.Bool.{and_from, or_left, or_right, lt-ltb, eq-eqb, cases_lt, cases_Bool}
 use Rattle.std.proofs.lemmas.Bool.Decides.{nat_tests}
 use Rattle.groups.specs.declared.items.Item.{Item}
 use Rattle.groups.specs.declared.items.Sign.{Sign}
 use Rattle.groups.specs.declared.items.Sign.TheVariants.{Plus, Minus, Star}
-use Rattle.groups.specs.Items.{rising}
 use Rattle.groups.specs.Rises.{climbing, item_if}
-use Rattle.groups.proofs.Climbing.{climbing_step}
-use Rattle.groups.proofs.Rising.{rising_step}
 use Rattle.levers.specs.declared.Levers.{Levers}
 use Rattle.levers.specs.Sets.{has, tally, Lowest}
 use Rattle.levers.proofs.Counts.{tally_same}
@@ -19,7 +18,8 @@ use Rattle.placed.specs.declared.Placed.{Placed}
 use Rattle.placed.specs.Laws.{DiffersFirst, OrdersOver}
 use Rattle.placed.specs.Signs.{sign_of, sign_on, Within, rank_if}
 use Rattle.placed.specs.Spelling.{spell_from, spell}
-use Rattle.placed.proofs.Spelled.{rises_from}
+use Rattle.placed.specs.Order.{own_items, order}
+use Rattle.placed.proofs.Own.{Above, Ups, ups_climbing, ups_range, above_from, own_within, own_spelled, orders_over, answers_less, answers_greater}
 
 -- a sign, where one end or both are there
 named_ends : (u d : Bool) → (u || d) ≡ is_some (sign_of u d)
@@ -82,33 +82,31 @@ step_same None p xs ys f e = f e
 step_same (Some s) p xs ys f e = let r = f (omega arith) in grind (arith, nat_tests)
 
 -- the place that decides: the plates behind it are higher, and there is one where the other has no sign here
-step_here : (o t : Option Sign) (p : ℕ) (xs ys : List Item) → rank_if o < rank_if t → rising p ys ≡ true → length (item_if p o ++ xs) ≡ length (item_if p t ++ ys) → earlier (item_if p o ++ xs) (item_if p t ++ ys) ≡ true
+step_here : (o t : Option Sign) (p : ℕ) (xs ys : List Item) → rank_if o < rank_if t → Above p ys → length (item_if p o ++ xs) ≡ length (item_if p t ++ ys) → earlier (item_if p o ++ xs) (item_if p t ++ ys) ≡ true
 step_here None None p xs ys h r e = absurd (omega arith)
 step_here None (Some t) p xs ys h r e = let l = rank_last t in absurd (omega arith)
 step_here (Some s) (Some t) p xs ys h r e = or_left _ _ (or_right _ _ (and_from _ _ (eq-eqb p p refl) (lt-ltb _ _ h)))
 step_here (Some s) None p xs [] h r e = absurd (omega arith)
-step_here (Some s) None p xs (y ∷ ys) h r e = or_left _ _ (or_left _ _ (lt-ltb _ _ (rising_step p y ys r).above))
+step_here (Some s) None p xs (y ∷ ys) h r e = or_left _ _ (or_left _ _ (lt-ltb _ _ r))
 
-earlier_from : (k low : ℕ) (ps : List ℕ) (g h : Placed) (j : ℕ) → climbing low ps ≡ true → j < length ps → ((i : ℕ) → i < j → sign_on g (k + i) ≡ sign_on h (k + i)) → rank_if (sign_on g (k + j)) < rank_if (sign_on h (k + j)) → length (spell_from k ps g) ≡ length (spell_from k ps h) → earlier (spell_from k ps g) (spell_from k ps h) ≡ true
+earlier_from : (k low : ℕ) (ps : List ℕ) (g h : Placed) (j : ℕ) → Ups low ps → j < length ps → ((i : ℕ) → i < j → sign_on g (k + i) ≡ sign_on h (k + i)) → rank_if (sign_on g (k + j)) < rank_if (sign_on h (k + j)) → length (spell_from k ps g) ≡ length (spell_from k ps h) → earlier (spell_from k ps g) (spell_from k ps h) ≡ true
 earlier_from k low [] g h j r l s d e = absurd (omega arith)
 earlier_from k low (p ∷ ps) g h zero r l s d e =
-    let c = climbing_step low p ps r in
     let z : k + 0 ≡ k = omega arith in
-    step_here (sign_on g k) (sign_on h k) p (spell_from (suc k) ps g) (spell_from (suc k) ps h) (rw z at d) (rises_from (suc k) p ps h c.rest) e
+    step_here (sign_on g k) (sign_on h k) p (spell_from (suc k) ps g) (spell_from (suc k) ps h) (rw z at d) (above_from (suc k) p ps h r.1) e
 earlier_from k low (p ∷ ps) g h (suc j) r l s d e =
-    let c = climbing_step low p ps r in
     let z : k + 0 ≡ k = omega arith in
     let n : k + suc j ≡ suc k + j = omega arith in
     let same : sign_on g k ≡ sign_on h k = ap (sign_on g) (sym z) ∙ s 0 (omega arith) ∙ ap (sign_on h) z in
-    let rest = earlier_from (suc k) p ps g h j c.rest (omega arith) (λ i m. let w : suc k + i ≡ k + suc i = omega arith in ap (sign_on g) w ∙ s (suc i) (omega arith) ∙ ap (sign_on h) (sym w)) (rw n at d) in
+    let rest = earlier_from (suc k) p ps g h j r.1 (omega arith) (λ i m. let w : suc k + i ≡ k + suc i = omega arith in ap (sign_on g) w ∙ s (suc i) (omega arith) ∙ ap (sign_on h) (sym w)) (rw n at d) in
     here (sign_on g k) (sign_on h k) p (spell_from (suc k) ps g) (spell_from (suc k) ps h) same rest e
   where
     here : (o t : Option Sign) (p : ℕ) (xs ys : List Item) → o ≡ t → (length xs ≡ length ys → earlier xs ys ≡ true) → length (item_if p o ++ xs) ≡ length (item_if p t ++ ys) → earlier (item_if p o ++ xs) (item_if p t ++ ys) ≡ true
     here o t p xs ys q f e = ap (λ v. earlier (item_if p o ++ xs) (item_if p v ++ ys)) (sym q) ∙ step_same o p xs ys f (e ∙ ap (λ v. length (item_if p v ++ ys)) (sym q))
 
 -- of two groups of equal number that one comes first which has the lower rank at the lowest place at which they differ
-pub earlier_first : (ps : List ℕ) (g h : Placed) (p : ℕ) → climbing 0 ps ≡ true → Within (length ps) g → Within (length ps) h → ((k : ℕ) → k < p → sign_on g k ≡ sign_on h k) → rank_if (sign_on g p) < rank_if (sign_on h p) → length (spell ps g) ≡ length (spell ps h) → earlier (spell ps g) (spell ps h) ≡ true
-earlier_first ps g h p r v w s d e =
+earlier_ups : (ps : List ℕ) (g h : Placed) (p : ℕ) → Ups 0 ps → Within (length ps) g → Within (length ps) h → ((k : ℕ) → k < p → sign_on g k ≡ sign_on h k) → rank_if (sign_on g p) < rank_if (sign_on h p) → length (spell ps g) ≡ length (spell ps h) → earlier (spell ps g) (spell ps h) ≡ true
+earlier_ups ps g h p r v w s d e =
     ⊎_elim
     (λ l.
     let z : 0 + p ≡ p = omega arith in
@@ -116,11 +114,34 @@ earlier_first ps g h p r v w s d e =
     (λ l. let a = ap rank_if (v p l) in let b = ap rank_if (w p l) in absurd (omega arith))
     (cases_lt p (length ps))
 
+pub earlier_first : (ps : List ℕ) (g h : Placed) (p : ℕ) → climbing 0 ps ≡ true → Within (length ps) g → Within (length ps) h → ((k : ℕ) → k < p → sign_on g k ≡ sign_on h k) → rank_if (sign_on g p) < rank_if (sign_on h p) → length (spell ps g) ≡ length (spell ps h) → earlier (spell ps g) (spell ps h) ≡ true
+earlier_first ps g h p r = earlier_ups ps g h p (ups_climbing 0 ps r)
+
 -- where it does not have the lower rank there, the other does
 pub other_first : (ps : List ℕ) (g h : Placed) (p : ℕ) → climbing 0 ps ≡ true → Within (length ps) g → Within (length ps) h → (sign_on g p ≡ sign_on h p → ⊥) → ((k : ℕ) → k < p → sign_on g k ≡ sign_on h k) → rank_if (sign_on h p) ≤ rank_if (sign_on g p) → length (spell ps g) ≡ length (spell ps h) → earlier (spell ps h) (spell ps g) ≡ true
 other_first ps g h p r v w ne s d e =
     let other : rank_if (sign_on h p) ≡ rank_if (sign_on g p) → ⊥ = (λ q. ne (sym (ranks_same (sign_on h p) (sign_on g p) q))) in
     earlier_first ps h g p r w v (λ k m. sym (s k m)) (omega arith) (sym e)
+
+-- the same of the items of their own
+first_own : (g h : Placed) (p : ℕ) → ((k : ℕ) → k < p → sign_on g k ≡ sign_on h k) → rank_if (sign_on g p) < rank_if (sign_on h p) → length (own_items g) ≡ length (own_items h) → before (own_items g) (own_items h) ≡ true
+first_own g h p s d e =
+    let n = g.up.bits + g.down.bits + (h.up.bits + h.down.bits) in
+    let m = length-range_with_len 1 n in
+    let v : Within n g = (λ k l. own_within g k (omega arith)) in
+    let w : Within n h = (λ k l. own_within h k (omega arith)) in
+    let a = own_spelled g n v in
+    let b = own_spelled h n w in
+    let f = earlier_ups (range_with_len 1 n) g h p (ups_range 0 1 n (omega arith)) (λ k l. v k (omega arith)) (λ k l. w k (omega arith)) s d (sym (ap length a) ∙ e ∙ ap length b) in
+    or_right _ _ (and_from _ _ (eq-eqb _ _ e) ((λ i. earlier (a i) (b i)) ∙ f))
+
+pub own_first : (g h : Placed) (p : ℕ) → ((k : ℕ) → k < p → sign_on g k ≡ sign_on h k) → rank_if (sign_on g p) < rank_if (sign_on h p) → length (own_items g) ≡ length (own_items h) → Less ≡ order g h
+own_first g h p s d e = answers_less g h (first_own g h p s d e)
+
+pub own_other : (g h : Placed) (p : ℕ) → (sign_on g p ≡ sign_on h p → ⊥) → ((k : ℕ) → k < p → sign_on g k ≡ sign_on h k) → rank_if (sign_on h p) ≤ rank_if (sign_on g p) → length (own_items g) ≡ length (own_items h) → Greater ≡ order g h
+own_other g h p ne s d e =
+    let other : rank_if (sign_on h p) ≡ rank_if (sign_on g p) → ⊥ = (λ q. ne (sym (ranks_same (sign_on h p) (sign_on g p) q))) in
+    answers_greater g h (first_own h g p (λ k m. sym (s k m)) (omega arith) (sym e))
 
 -- what `cmp` answers, as a test: it says less just where the one comes before the other in a table
 pub ordered_before : (ps : List ℕ) (g h : Placed) (o : Ordering) → climbing 0 ps ≡ true → Within (length ps) g → Within (length ps) h → OrdersOver g h o → is_lt o ≡ before (spell ps g) (spell ps h)
@@ -135,6 +156,5 @@ ordered_before ps g h Greater r v w t =
     ⊎_elim (λ b. absurd (order_is_strict.one_way (spell ps g) (spell ps h) b (t ps r v w))) (λ b. sym b) (cases_Bool (before (spell ps g) (spell ps h)))
 
 -- the same of `<`
-pub less_before : (ps : List ℕ) (g h : Placed) (r : Bool) → climbing 0 ps ≡ true → Within (length ps) g → Within (length ps) h → Tested (λ o. IsSomeAnd o (OrdersOver g h)) is_lt r → r ≡ before (spell ps g) (spell ps h)
-less_before ps g h r c v w (None, t, e) = absurd t
-less_before ps g h r c v w (Some o, t, e) = e ∙ ordered_before ps g h o c v w t
+pub less_before : (ps : List ℕ) (g h : Placed) (r : Bool) → climbing 0 ps ≡ true → Within (length ps) g → Within (length ps) h → r ≡ is_lt (order g h) → r ≡ before (spell ps g) (spell ps h)
+less_before ps g h r c v w e = e ∙ ordered_before ps g h (order g h) c v w (orders_over g h)

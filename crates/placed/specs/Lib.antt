@@ -1,4 +1,5 @@
 pub mod Laws
+pub mod Order
 pub mod Rises
 pub mod Signs
 pub mod Spelling

@@ -1,35 +1,43 @@
 // The table's order on groups: by number of items first, and at equal numbers by the signs at the lowest place at which the
 // two differ. specs/Laws.antt states it in the words of the spelled items.
-ghost use Rattle.std.specs.Prelude.{◌≡◌, IsSomeAnd};
+ghost use Rattle.std.specs.Prelude.{◌≡◌, length, IsSomeAnd};
 ghost use Rattle.placed.specs.Laws.{CountsOver, DiffersFirst, EarlierOver, OrdersOver};
+ghost use Rattle.placed.specs.Order.{own_items, order, order_total, order_ties};
 ghost use Rattle.placed.specs.Signs.{rank_if};
-ghost use Rattle.std.specs.Cmp.Rules.{comparing};
-ghost use Rattle.std.proofs.Common.{rules};
+ghost use Rattle.std.specs.Ordering.{as_partial_cmp};
+ghost use Rattle.std.proofs.Common.{refl};
+ghost use Rattle.std.specs.Cmp.{partial_order_from_agreeing_total};
 
 use super::Placed;
 use groups::items::Sign;
 use std::cmp::Ordering;
 
 impl PartialOrd for Placed {
-    ghost compares = { λ g h r. IsSomeAnd r (OrdersOver g h) };
+    ghost partial_cmp = { as_partial_cmp order };
 
-    ghost laws = { Prim.search (comparing, rules) };
+    ghost laws = { partial_order_from_agreeing_total order order_total (λ g h. refl) order_ties };
 
-    fn partial_cmp(&self, other: &Placed) -> Option<Ordering> {
+    fn partial_cmp(&self, other: &Placed) -> Option<Ordering>
+        ensures answer { result ≡ as_partial_cmp order self.now other.now }
+        ensures over { IsSomeAnd result (OrdersOver self.now other.now) }
+    {
         Some(self.cmp(other))
     }
 }
 
 impl Ord for Placed {
-    ghost orders = { OrdersOver };
+    ghost cmp = { order };
 
-    ghost total = { Prim.search (comparing, rules) };
+    ghost total = { order_total };
 
-    ghost matches_partial_cmp = { Prim.search (comparing, rules) };
+    ghost matches_partial_cmp = { λ g h. refl };
 
-    ghost matches_eq = { Prim.search (comparing, rules) };
+    ghost matches_eq = { order_ties };
 
-    fn cmp(&self, other: &Placed) -> Ordering {
+    fn cmp(&self, other: &Placed) -> Ordering
+        ensures answer { result ≡ order self.now other.now }
+        ensures over { OrdersOver self.now other.now result }
+    {
         self.order(*other)
     }
 }
@@ -37,7 +45,8 @@ impl Ord for Placed {
 impl Placed {
     // Which of two groups comes first in a table.
     fn order(self, other: Placed) -> Ordering
-        ensures { OrdersOver self other result }
+        ensures answer { result ≡ order self other }
+        ensures over { OrdersOver self other result }
     {
         let here = self.number();
         let there = other.number();
@@ -59,7 +68,8 @@ impl Placed {
 
     // Which of two groups of equal number comes first.
     fn order_by_signs(self, other: Placed) -> Ordering
-        ensures { EarlierOver self other result }
+        ensures answer { length (own_items self) ≡ length (own_items other) → result ≡ order self other }
+        ensures over { EarlierOver self other result }
     {
         match self.first_difference(other) {
             None => Ordering::Equal,

@@ -1,6 +1,6 @@
 -- A group put behind those at the front that come before it. Assumes nothing.
-use Rattle.std.proofs.Common.{◌≡◌, ℕ, ◌+◌, ◌<◌, ◌≤◌, Bool, true, false, cond, List, [], ◌∷◌, ◌++◌, length, get_or, take, drop, IsSomeAnd, sym, refl, ap, ◌∙◌, subst, ⊎_elim, one-add, arith}
-use Rattle.std.specs.Ordering.{Tested, is_lt}
+use Rattle.std.proofs.Common.{◌≡◌, ℕ, ◌+◌, ◌<◌, ◌≤◌, Bool, true, false, cond, List, [], ◌∷◌, ◌++◌, length, get_or, take, drop, sym, refl, ap, ◌∙◌, subst, ⊎_elim, one-add, arith}
+use Rattle.std.specs.Ordering.{is_lt}
 use Rattle.std.specs.List.{ContainsAt as Has}
 use Rattle.std.proofs.ByRecursion.{All-append, All-take, All-drop, All-get_or}
 use Rattle.std.proofs.lemmas.List.{length-append, length-take-le, length-drop}
@@ -12,7 +12,7 @@ use Rattle.meaning.specs.Tables.{before, put_in_order}
 use Rattle.meaning.proofs.Members.{has_first, has_later}
 use Rattle.meaning.proofs.Order.{order_is_strict}
 use Rattle.placed.specs.declared.Placed.{Placed}
-use Rattle.placed.specs.Laws.{OrdersOver}
+use Rattle.placed.specs.Order.{order}
 use Rattle.placed.specs.Signs.{Within}
 use Rattle.placed.specs.Spelling.{spell}
 use Rattle.placed.proofs.Ordered.{less_before}
@@ -28,11 +28,11 @@ Passed g gs k = (k ≤ length gs) × ((ps : List ℕ) → climbing 0 ps ≡ true
 
 module _ (g : Placed) (gs : List Placed) (k : ℕ) where
   -- what `<` answers of the group at place k
-  less_at : (d : Placed) (t : Bool) → k < length gs → Tested (λ o. IsSomeAnd o (OrdersOver (get_or gs k d) g)) is_lt t → (ps : List ℕ) → climbing 0 ps ≡ true → AllWithin (length ps) gs → Within (length ps) g → t ≡ before (spell ps (get_or gs k d)) (spell ps g)
+  less_at : (d : Placed) (t : Bool) → k < length gs → t ≡ is_lt (order (get_or gs k d) g) → (ps : List ℕ) → climbing 0 ps ≡ true → AllWithin (length ps) gs → Within (length ps) g → t ≡ before (spell ps (get_or gs k d)) (spell ps g)
   less_at d t l e ps r a w = less_before ps (get_or gs k d) g t r (All-get_or (Within (length ps)) gs k d l a) w e
 
   -- one more comes before g
-  pub passed_more : (d : Placed) (t : Bool) → k < length gs → Tested (λ o. IsSomeAnd o (OrdersOver (get_or gs k d) g)) is_lt t → t ≡ true → Passed g gs k → Passed g gs (k + 1)
+  pub passed_more : (d : Placed) (t : Bool) → k < length gs → t ≡ is_lt (order (get_or gs k d) g) → t ≡ true → Passed g gs k → Passed g gs (k + 1)
   passed_more d t l e y p = (
     omega arith,
     (λ ps r a w.
@@ -40,7 +40,7 @@ module _ (g : Placed) (gs : List Placed) (k : ℕ) where
   )
 
   -- the next one does not
-  pub passed_here : (d : Placed) (t : Bool) → k < length gs → Tested (λ o. IsSomeAnd o (OrdersOver (get_or gs k d) g)) is_lt t → t ≡ false → Passed g gs k → PlaceOver g gs k
+  pub passed_here : (d : Placed) (t : Bool) → k < length gs → t ≡ is_lt (order (get_or gs k d) g) → t ≡ false → Passed g gs k → PlaceOver g gs k
   passed_here d t l e y p = record {
     inside = p.0;
     counts = λ ps r a w.

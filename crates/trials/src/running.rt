@@ -59,7 +59,7 @@ pub fn frame_of_groups(heap: Global, groups: &[Group]) -> Result<Option<Plates>,
     for group in groups {
         add_plates(&mut plates, group)?;
     }
-    plates.sort();
+    plates.sort()?;
     plates.dedup();
     Ok(frame_of(plates.as_slice()))
 }

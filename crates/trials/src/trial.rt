@@ -121,7 +121,7 @@ fn shortest(heap: Global, forbidden: &[Forbidden]) -> Result<Vec<Listing>, Alloc
             table.push(group.listing)?;
         }
     }
-    table.sort();
+    table.sort()?;
     Ok(table)
 }
 

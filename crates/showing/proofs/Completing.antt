@@ -1,18 +1,18 @@
 -- A group is completed to the first setting, one lever after the other. Assumes nothing.
-use Rattle.std.proofs.Common.{◌≡◌, ℕ, zero, suc, ◌+◌, ◌<◌, ◌≤◌, Bool, true, false, cond, not, ◌&&◌, ◌||◌, eqb, ltb, ◌⊎◌, List, [], ◌∷◌, ◌++◌, length, get_or, is_some, Some, None, Option, sym, refl, ap, ◌∙◌, subst, inl, inr, ⊎_elim, arith}
+use Rattle.std.proofs.Common.{◌≡◌, ℕ, zero, suc, ◌+◌, ◌<◌, true, false, not, ◌&&◌, ◌||◌, eqb, ltb, ◌⊎◌, List, [], ◌∷◌, ◌++◌, length, get_or, is_some, Some, None, Option, sym, refl, ap, ◌∙◌, subst, inl, inr, ⊎_elim, arith}
 use Rattle.std.proofs.lemmas.Bool.{and_parts, and_from, and_left, and_right, or_parts, or_from, not-true, not-false, not_from_false, eq-eqb, ne_eqb, lt-ltb, cond-true, cond-false, cases_eq, cases_lt, cases_Bool, both_ways, false≢true}
 use Rattle.groups.specs.declared.items.Item.{Item}
 use Rattle.groups.specs.declared.items.Sign.{Sign}
 use Rattle.groups.specs.declared.items.Sign.TheVariants.{Plus, Minus, Star}
-use Rattle.groups.specs.Items.{sign_at, covers}
+use Rattle.groups.specs.Items.{sign_at}
 use Rattle.groups.specs.Rises.{item_if}
 use Rattle.groups.proofs.Climbing.{place_cases}
 use Rattle.meaning.specs.States.{State, normal, reversed, between, holds, Setting, shows, shows_any}
-use Rattle.meaning.specs.Frames.{Frame, Sound, group_over, moving, possible, is_star, starred, manageable}
+use Rattle.meaning.specs.Frames.{Frame, Sound, group_over, moving, is_star, starred, manageable}
 use Rattle.meaning.specs.Tables.{IsTable, covered_by}
 use Rattle.meaning.specs.Laws.{Excluded}
-use Rattle.meaning.specs.Shown.{sign_for, written, RestsOn, state_rank, sooner, FirstSetting}
-use Rattle.meaning.proofs.Ends.{End, upper, lower, ends, Within as EndsWithin, shows_has, has_covers, shows_covered}
+use Rattle.meaning.specs.Shown.{sign_for, written, RestsOn, state_rank, sooner}
+use Rattle.meaning.proofs.Ends.{upper, lower, ends, Within as EndsWithin, shows_has, has_covers, shows_covered}
 use Rattle.meaning.proofs.Managed.{manageable_stars}
 use Rattle.meaning.proofs.OneMore.{shows_insert, covered_excluded}
 use Rattle.meaning.proofs.Resting.{rest_at, rest, rest_star, rest_shows, rest_less, rest_moving, any_less, excluded_forbidden}

@@ -1,5 +1,5 @@
 -- What a group shows by the table of a frame, by places. Assumes nothing.
-use Rattle.std.specs.Prelude.{◌≡◌, ℕ, ◌<◌, Bool, true, false, cond, ◌&&◌, List, length, get_or, is_some, Some, None, Option, MatchOption, ◌==◌, nat_lt, slice_index_or}
+use Rattle.std.specs.Prelude.{◌≡◌, ℕ, ◌<◌, true, false, cond, ◌&&◌, List, length, get_or, is_some, Some, None, Option, MatchOption, ◌==◌, nat_lt, slice_index_or}
 use Rattle.groups.specs.declared.items.Item.{Item}
 use Rattle.groups.specs.declared.items.Sign.{Sign}
 use Rattle.groups.specs.declared.items.Sign.TheVariants.{Plus, Minus}

@@ -1,28 +1,27 @@
 -- One end less of a group by its places. Assumes nothing.
-use Rattle.std.proofs.Common.{◌≡◌, ℕ, zero, suc, ◌+◌, ◌<◌, ◌≤◌, Bool, true, false, cond, ◌&&◌, ◌||◌, eqb, ◌⊎◌, List, [], ◌∷◌, map, length, get_or, is_some, Some, None, Option, sym, refl, ap, ◌∙◌, subst, inl, inr, ⊎_elim, arith}
+use Rattle.std.proofs.Common.{◌≡◌, ℕ, zero, suc, ◌+◌, ◌<◌, Bool, true, false, cond, eqb, ◌⊎◌, List, [], ◌∷◌, length, get_or, is_some, Option, sym, refl, ap, ◌∙◌, subst, inl, inr, ⊎_elim, arith}
 use Rattle.std.specs.List.{AllByRecursion}
 use Rattle.std.proofs.ByRecursion.{All-map}
 use Rattle.std.proofs.lemmas.Bool.{eq-eqb, ne_eqb, cond-true, cond-false, cases_eq, cases_Bool, cases_lt, both_ways, false≢true, and_from, or_left, or_right}
 use Rattle.groups.specs.declared.items.Item.{Item}
 use Rattle.groups.specs.declared.items.Sign.{Sign}
-use Rattle.groups.specs.declared.items.Sign.TheVariants.{Plus, Minus, Star}
-use Rattle.groups.specs.Items.{rising, sign_at, names, covers}
+use Rattle.groups.specs.Items.{sign_at, names, covers}
 use Rattle.groups.specs.Rises.{climbing}
-use Rattle.groups.proofs.Climbing.{one_place, place_cases}
+use Rattle.groups.proofs.Climbing.{place_cases}
 use Rattle.meaning.specs.Frames.{is_one_of, group_over}
 use Rattle.meaning.specs.Laws.{read_off}
-use Rattle.meaning.proofs.Ends.{End, upper, lower, ends, Within as EndsWithin, covers_has, has_covers, covers_trans, covers_itself}
+use Rattle.meaning.proofs.Ends.{upper, lower, ends, Within as EndsWithin, covers_has, has_covers, covers_trans, covers_itself}
 use Rattle.meaning.proofs.Combining.{within_all}
-use Rattle.meaning.proofs.Fitted.{over_parts, names_fitted, fitted_names, has_named}
+use Rattle.meaning.proofs.Fitted.{over_parts, names_fitted}
 use Rattle.meaning.proofs.Monotone.{read_more}
 use Rattle.meaning.proofs.SomeTable.{all_of}
 use Rattle.placed.specs.declared.Placed.{Placed}
 use Rattle.placed.specs.Signs.{Within, sign_on, has_upper, has_lower, without_upper, without_lower}
 use Rattle.placed.specs.Spelling.{spell}
 use Rattle.placed.proofs.Spelled.{spelled_sign, spelled_none, spelled_rises}
-use Rattle.rows.specs.Rows.{spell_all, AllWithin}
+use Rattle.rows.specs.Rows.{spell_all}
 use Rattle.telling.specs.Told.{Holds}
-use Rattle.telling.specs.Shortened.{FirmAt, FirmBelow, Shorter, WhereTold, TriedOver, EndTried, PlaceTried, Shortened}
+use Rattle.telling.specs.Shortened.{FirmAt, FirmBelow, Shorter, EndTried, PlaceTried}
 
 -- ## What a group spells over the plates of a frame
 

@@ -1,23 +1,21 @@
 -- The steps by which the table tells: one group more, one place more. Assumes nothing.
-use Rattle.std.proofs.Common.{◌≡◌, ℕ, suc, ◌+◌, ◌<◌, ◌≤◌, Bool, true, false, cond, not, ◌&&◌, ◌||◌, eqb, ltb, ◌⊎◌, List, [], ◌∷◌, ◌++◌, length, get_or, drop, is_some, Some, None, Option, sym, refl, ap, ◌∙◌, subst, inl, inr, ⊎_elim, arith}
+use Rattle.std.proofs.Common.{◌≡◌, ℕ, suc, ◌+◌, ◌<◌, ◌≤◌, Bool, true, false, cond, ◌&&◌, ◌||◌, eqb, ltb, ◌⊎◌, List, ◌++◌, length, get_or, drop, Some, None, Option, sym, refl, ap, ◌∙◌, subst, inl, inr, ⊎_elim, arith}
 use Rattle.std.proofs.ByRecursion.{All-get_or}
 use Rattle.std.proofs.lemmas.List.{at_drop_more, at_drop_all}
 use Rattle.std.proofs.lemmas.Bool.{cases_eq, eq-eqb, ne_eqb, cond-true, cond-false, and_from, and_left, lt-ltb}
 use Rattle.groups.specs.declared.items.Item.{Item}
 use Rattle.groups.specs.declared.items.Sign.{Sign}
-use Rattle.groups.specs.declared.items.Sign.TheVariants.{Plus, Minus, Star}
-use Rattle.groups.specs.Items.{rising, sign_at, names, insert, sits, covers}
+use Rattle.groups.specs.Items.{sign_at, insert, covers}
 use Rattle.groups.specs.Rises.{climbing, item_if}
 use Rattle.groups.proofs.Climbing.{climbing_above, climbing_upto, one_place, place_cases}
 use Rattle.groups.proofs.Rising.{same_signs, insert_rises, insert_sign}
 use Rattle.meaning.specs.Tables.{covered_by}
-use Rattle.meaning.specs.Laws.{opposite, covered_with, settled, all_settled}
+use Rattle.meaning.specs.Laws.{all_settled}
 use Rattle.placed.specs.declared.Placed.{Placed}
 use Rattle.placed.specs.Signs.{Within, sign_on}
 use Rattle.placed.specs.Spelling.{spell, spell_from}
 use Rattle.placed.proofs.Spelled.{spelled_sign, spelled_none, spelled_rises}
 use Rattle.rows.specs.Rows.{spell_all, AllWithin}
-use Rattle.telling.specs.declared.Gap.{Gap}
 use Rattle.telling.specs.declared.Gap.TheVariants.{Filled, Opposite, Open}
 use Rattle.telling.specs.Gaps.{gap_of}
 use Rattle.telling.specs.Told.{Holds, settled_if}

@@ -1,5 +1,5 @@
 -- What a group leaves open of the sign that a line has for a lever. Assumes nothing.
-use Rattle.std.specs.Prelude.{Bool, true, false, cond, Some, None, Option}
+use Rattle.std.specs.Prelude.{cond, Some, None, Option}
 use Rattle.groups.specs.declared.items.Sign.{Sign}
 use Rattle.groups.specs.Items.{sits}
 use Rattle.meaning.specs.Laws.{opposite}

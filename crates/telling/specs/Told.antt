@@ -2,13 +2,11 @@
 use Rattle.std.specs.Prelude.{◌≡◌, ℕ, ◌<◌, ◌≤◌, Bool, true, List, length, Some, None, Option, slice_index}
 use Rattle.groups.specs.declared.items.Item.{Item}
 use Rattle.groups.specs.declared.items.Sign.{Sign}
-use Rattle.groups.specs.Items.{sign_at, covers}
 use Rattle.groups.specs.Rises.{climbing}
-use Rattle.meaning.specs.Frames.{group_over}
 use Rattle.meaning.specs.Tables.{covered_by}
 use Rattle.meaning.specs.Laws.{settled, all_settled, read_off}
 use Rattle.placed.specs.declared.Placed.{Placed}
-use Rattle.placed.specs.Signs.{Within, sign_on}
+use Rattle.placed.specs.Signs.{sign_on}
 use Rattle.placed.specs.Spelling.{spell}
 use Rattle.rows.specs.Rows.{spell_all, AllWithin}
 

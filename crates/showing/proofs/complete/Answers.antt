@@ -1,8 +1,6 @@
 use Rattle.std.proofs.Common.{◌≡◌, ◌+◌, ◌<◌, length, sym, subst, arith}
 use Rattle.meaning.specs.Frames.{Frame}
-use Rattle.placed.specs.Spelling.{spell}
-use Rattle.rows.specs.Rows.{spell_all}
-use Rattle.showing.specs.Showing.{SetAt, already, plus, minus}
+use Rattle.showing.specs.Showing.{already, plus, minus}
 use Rattle.showing.proofs.Completing.{Upto, upto_already, upto_plus, upto_minus, upto_all}
 use Rattle.showing.proofs.complete.Goals as goal
 
@@ -15,10 +13,10 @@ loop-place-preserved c crew ps lines h e w sound right able free =
     let r = c.loop-place.whole in
     let so = c.loop-place.invariant crew ps lines h e w sound right able free in
     let l : k < length ps = omega (arith, c.loop-place-test.true) in
-    elim (c.set-at-whole.ensures ps h) [
+    elim (c.set_at-whole.ensures ps h) [
       | already n same ↦ subst (Upto f table g (k + 1)) (sym same) (upto_already f table g h sound right able k l r so n)
-      | plus none gives told ↦ upto_plus f table g h sound right able k l r so none c.set-at-whole.result gives told
-      | minus none n gives told turns ↦ upto_minus f table g h sound right able k l r so none n gives told c.set-at-whole.result turns
+      | plus none gives told ↦ upto_plus f table g h sound right able k l r so none c.set_at-whole.result gives told
+      | minus none n gives told turns ↦ upto_minus f table g h sound right able k l r so none n gives told c.set_at-whole.result turns
     ]
 
 pub returns : goal.returns

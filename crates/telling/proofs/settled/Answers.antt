@@ -1,4 +1,4 @@
-use Rattle.std.proofs.Common.{◌≡◌, ◌∙◌}
+use Rattle.std.proofs.Common.{◌∙◌}
 use Rattle.telling.specs.Gaps.{gap_of}
 use Rattle.telling.proofs.Steps.{told_filled, told_opposite, told_open}
 use Rattle.telling.proofs.settled.Goals as goal

@@ -4,7 +4,7 @@ use Rattle.groups.specs.Groups.{items_of}
 use Rattle.placed.specs.Spelling.{spell}
 use Rattle.frames.proofs.Written.{spell_skip, spell_put}
 use Rattle.frames.proofs.places.spell.Goals as goal
-use Rattle.frames.proofs.places.spell.Goals.{in-Some, in-default}
+use Rattle.frames.proofs.places.spell.Goals.{in-Some, in_default}
 
 pub loop-place-init : goal.loop-place-init
 loop-place-init c = c.new-group.ensures
@@ -16,7 +16,7 @@ loop-place-preserved c =
     let low : n < 32 = omega (arith, c.loop-place-test.true, c.requires.few) in
     elim c.match-sign.branch [
       | in-Some w ↦ ap items_of w.group-is ∙ spell_put ps n c.args.placed c.loop-place-test.true w.in-Some.sign c.requires.rises low (sym w.in-Some.ensures) (items_of c.loop-place.group) (items_of w.insert.new.self) w.insert.result c.loop-place.invariant w.insert.ensures.taken w.insert.ensures.after
-      | in-default w ↦ ap items_of w.group-is ∙ c.loop-place.invariant ∙ spell_skip ps n c.args.placed c.loop-place-test.true (sym w.in-default.ensures)
+      | in_default w ↦ ap items_of w.group-is ∙ c.loop-place.invariant ∙ spell_skip ps n c.args.placed c.loop-place-test.true (sym w.in_default.ensures)
     ]
 
 pub returns : goal.returns

@@ -1,4 +1,4 @@
-use Rattle.std.proofs.Common.{◌≡◌, ◌<◌, length, arith}
+use Rattle.std.proofs.Common.{arith}
 use Rattle.placed.specs.Spelling.{spell}
 use Rattle.rows.specs.Rows.{spell_all}
 use Rattle.telling.proofs.Drops.{upto_none, upto_more}
@@ -12,8 +12,8 @@ pub loop-place-preserved : goal.loop-place-preserved
 loop-place-preserved c ps h e w t =
     let k = c.loop-place.place in
     let inv = c.loop-place.invariant ps h e w t in
-    upto_more ps (spell_all ps c.args.table.now) (spell ps c.args.line) k c.args.group c.loop-place.short c.drop-at-short.result h.climbs inv
-    (c.drop-at-short.ensures c.loop-place-test.true ps h e inv.shorter.within inv.shorter.told)
+    upto_more ps (spell_all ps c.args.table.now) (spell ps c.args.line) k c.args.group c.loop-place.short c.drop_at-short.result h.climbs inv
+    (c.drop_at-short.ensures c.loop-place-test.true ps h e inv.shorter.within inv.shorter.told)
 
 pub returns : goal.returns
 returns c ps h e w t =

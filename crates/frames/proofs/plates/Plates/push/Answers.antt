@@ -9,15 +9,17 @@ use Rattle.frames.proofs.plates.Plates.push.Goals as goal
 room : (f : Plates) → length (fitted f) < 32 → f.count < 32
 room f l = let few = f.few in omega (arith, length-take-le f.count f.plates (omega (arith, f.long)))
 
-pub invariant-of-self : goal.invariant-of-self
-invariant-of-self c =
+pub invariant_of-self : goal.invariant_of-self
+invariant_of-self c =
     let f = c.args.self.now in
     let fits = fits_behind (fitted f) c.args.plate c.requires in
     let below = room f fits.1 in
-    let long = f.long in (
-      length-set f.plates f.count c.args.plate ∙ long,
-      (omega arith, (ap (climbing 0) (take_more_set f.plates f.count c.args.plate (omega arith)) ∙ fits.0, tt)),
-    )
+    let long = f.long in
+    record {
+      long = length-set f.plates f.count c.args.plate ∙ long;
+      few = omega arith;
+      rises = ap (climbing 0) (take_more_set f.plates f.count c.args.plate (omega arith)) ∙ fits.0;
+    }
 
 pub returns : goal.returns
 returns c =

@@ -60,7 +60,7 @@ fn report<W: Write>(heap: Global, input: &[u8], out: &mut W) -> io::Result<()> {
         return out.write_all(b"too long\n");
     }
     let mut lines = read_lines(heap, input, out)?;
-    lines.plates.sort();
+    lines.plates.sort_unstable();
     lines.plates.dedup();
     let Some(plates) = frame_of(lines.plates.as_slice()) else {
         return out.write_all(b"more than 32 different plates\n");

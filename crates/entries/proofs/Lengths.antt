@@ -1,5 +1,5 @@
 -- Answer lines fit a line. Assumes nothing.
-use Rattle.std.proofs.Common.{◌≡◌, ℕ, ◌≤◌, true, List, [], ◌∷◌, ◌++◌, length, codes, decimal, arith, length-append}
+use Rattle.std.proofs.Common.{◌≡◌, ℕ, ◌≤◌, true, List, ◌∷◌, ◌++◌, length, codes, decimal, arith, length-append}
 use Rattle.faults.specs.declared.Fault.{Fault}
 use Rattle.faults.specs.declared.Place.TheVariants.{Byte, Plate}
 use Rattle.groups.specs.declared.items.Item.{Item}

@@ -11,8 +11,8 @@ pub returns : goal.returns
 returns c =
     let g = c.args.group.now in
     let few = g.few in
-    let number = c.put-number.ensures.after ∙ (λ i. cut (c.new-line.ensures i ++ decimal (c.from.ensures i))) in
-    let spaced = behind [] (decimal c.args.number) (32 ∷ []) (text_of c.put-number.new.self) (text_of c.put-text.new.self) number c.put-text.ensures in
-    behind [] (decimal c.args.number ++ (32 ∷ [])) (group_text (items_of g)) (text_of c.put-text.new.self) (text_of c.put-group.new.self) spaced c.put-group.ensures
+    let number = c.put_number.ensures.after ∙ (λ i. cut (c.new-line.ensures i ++ decimal (c.from.ensures i))) in
+    let spaced = behind [] (decimal c.args.number) (32 ∷ []) (text_of c.put_number.new.self) (text_of c.put_text.new.self) number c.put_text.ensures in
+    behind [] (decimal c.args.number ++ (32 ∷ [])) (group_text (items_of g)) (text_of c.put_text.new.self) (text_of c.put_group.new.self) spaced c.put_group.ensures
     ∙ ap cut (append_assoc (decimal c.args.number) (32 ∷ []) (group_text (items_of g)))
-    ∙ cut_short (group_line c.args.number (items_of g)) (group_line_short c.args.number (items_of g) (subst (λ n. length (decimal n) ≤ 20) c.from.ensures c.put-number.ensures.short) g.rises (omega (arith, length-take g.count g.items)))
+    ∙ cut_short (group_line c.args.number (items_of g)) (group_line_short c.args.number (items_of g) (subst (λ n. length (decimal n) ≤ 20) c.from.ensures c.put_number.ensures.short) g.rises (omega (arith, length-take g.count g.items)))

@@ -14,15 +14,15 @@ returns-in-Nowhere c = record {
 pub returns-in-Byte : goal.returns-in-Byte
 returns-in-Byte c = record {
   after =
-      behind (text_of c.args.line.now) (codes " at ") (decimal c.in-Byte.byte) (text_of c.put-text.new.self) (text_of c.put-number.new.self) c.put-text.ensures c.put-number.ensures.after
+      behind (text_of c.args.line.now) (codes " at ") (decimal c.in-Byte.byte) (text_of c.put_text.new.self) (text_of c.put_number.new.self) c.put_text.ensures c.put_number.ensures.after
       ∙ ap (λ p. cut (text_of c.args.line.now ++ place_text p)) (sym c.in-Byte.is);
-  short = subst (λ p. length (place_text p) ≤ 27) (sym c.in-Byte.is) (byte_short c.in-Byte.byte c.put-number.ensures.short);
+  short = subst (λ p. length (place_text p) ≤ 27) (sym c.in-Byte.is) (byte_short c.in-Byte.byte c.put_number.ensures.short);
 }
 
 pub returns-in-Plate : goal.returns-in-Plate
 returns-in-Plate c = record {
   after =
-      behind (text_of c.args.line.now) (codes " plate ") (decimal c.in-Plate.plate) (text_of c.put-text_in-Plate.new.self) (text_of c.put-number-in-Plate.new.self) c.put-text_in-Plate.ensures (c.put-number-in-Plate.ensures.after ∙ ap (λ n. cut (text_of c.put-text_in-Plate.new.self ++ decimal n)) c.from.ensures)
+      behind (text_of c.args.line.now) (codes " plate ") (decimal c.in-Plate.plate) (text_of c.put_text-in-Plate.new.self) (text_of c.put_number-in-Plate.new.self) c.put_text-in-Plate.ensures (c.put_number-in-Plate.ensures.after ∙ ap (λ n. cut (text_of c.put_text-in-Plate.new.self ++ decimal n)) c.from.ensures)
       ∙ ap (λ p. cut (text_of c.args.line.now ++ place_text p)) (sym c.in-Plate.is);
-  short = subst (λ p. length (place_text p) ≤ 27) (sym c.in-Plate.is) (plate_short c.in-Plate.plate (subst (λ n. length (decimal n) ≤ 20) c.from.ensures c.put-number-in-Plate.ensures.short));
+  short = subst (λ p. length (place_text p) ≤ 27) (sym c.in-Plate.is) (plate_short c.in-Plate.plate (subst (λ n. length (decimal n) ≤ 20) c.from.ensures c.put_number-in-Plate.ensures.short));
 }

@@ -1,4 +1,4 @@
-// Sets of levers by their places in a frame, 0 to 31. No other crate sees the bits. specs/Sets.antt says what is in a set.
+// Sets of levers by their places in a frame, 0 to 31. No code of another crate sees the bits. specs/Sets.antt says what is in a set.
 #![tactic(auto)]
 
 ghost use Rattle.std.specs.Prelude.{◌≡◌, ℕ, ◌≤◌, true, false, not, ◌&&◌, ◌||◌, Decides, ◌==◌, nat_lt};

@@ -1,4 +1,3 @@
 pub mod Rising
-pub mod Shift
 pub mod Climbing
 pub mod Single

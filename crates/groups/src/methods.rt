@@ -5,6 +5,7 @@ ghost use Rattle.groups.specs.Groups.{items_of, takes};
 
 use super::group::Group;
 use super::items::{Item, Sign};
+use fixed::row::Row;
 
 // The highest plate that a lever can have.
 pub const HIGHEST_PLATE: u32 = 2_097_151;
@@ -22,8 +23,7 @@ impl Group {
             sign: Sign::Plus,
         };
         Group {
-            items: [blank; 32],
-            count: 0,
+            items: Row::new(blank),
         }
     }
 
@@ -31,7 +31,7 @@ impl Group {
     pub fn items(&self) -> &[Item]
         ensures { result.now ≡ items_of self.now }
     {
-        &self.items[0..self.count]
+        self.items.all()
     }
 
     // The sign that the group gives a plate, if it names it.
@@ -69,10 +69,8 @@ impl Group {
         requires { takes (items_of self.old) item.plate ≡ true }
         ensures { items_of self.new ≡ insert item (items_of self.old) }
     {
-        let count = self.count;
         let at = place_of(self.items(), item.plate);
-        put_in(&mut self.items, count, at, item);
-        self.count = count + 1;
+        let _ = self.items.insert(at, item);
     }
 }
 
@@ -93,18 +91,5 @@ fn sign_among(items: &[Item], plate: u32) -> Option<Sign>
 fn place_of(items: &[Item], plate: u32) -> usize
     ensures { result ≡ place_of plate items.now }
 {
-    let mut at = 0;
-    while at < items.len() && items[at].plate < plate {
-        at += 1;
-    }
-    at
-}
-
-// Puts an item at a place of the first `count`, of which those from there on move up by one.
-fn put_in(items: &mut [Item], count: usize, at: usize, item: Item)
-    requires { (at ≤ count) × (count < length items.old) }
-    ensures { take (count + 1) items.new ≡ take at (take count items.old) ++ (item ∷ drop at (take count items.old)) }
-{
-    items[count] = item;
-    items[at..count + 1].rotate_right(1);
+    items.iter().take_while(|item| item.plate < plate).count()
 }

@@ -1,0 +1,22 @@
+// The type of a row, with what holds of each of its values.
+ghost use Rattle.std.specs.Prelude.{◌≡◌, ◌≤◌, length};
+
+use std::alloc::AllocError;
+
+// At most N items. The first `count` places hold them.
+pub struct Row<T, const N: usize> {
+    pub(super) places: [T; N],
+    pub(super) count: usize,
+    ghost long: { length places ≡ N },
+    ghost few: { count ≤ N },
+}
+
+impl<T: Copy, const N: usize> Clone for Row<T, N> {
+    ghost is_infallible = { λ _. Unit {0} };
+
+    fn clone(&self) -> Result<Row<T, N>, AllocError> {
+        Ok(*self)
+    }
+}
+
+impl<T: Copy, const N: usize> Copy for Row<T, N> {}

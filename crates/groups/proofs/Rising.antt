@@ -1,5 +1,5 @@
 -- Items that rise: where a plate is looked for, and where a new item goes. Assumes nothing.
-use Rattle.std.proofs.Common.{◌≡◌, ℕ, zero, suc, ◌<◌, ◌≤◌, Bool, true, false, cond, eqb, ltb, List, [], ◌∷◌, ◌++◌, length, get_or, take, drop, is_some, Some, None, Option, sym, refl, ap, ◌∙◌, ⊎_elim, one-add, arith}
+use Rattle.std.proofs.Common.{◌≡◌, ℕ, zero, suc, ◌<◌, ◌≤◌, Bool, true, false, cond, eqb, ◌==◌, find, ltb, List, [], ◌∷◌, ◌++◌, length, get_or, take, drop, is_some, Some, None, Option, option_map, sym, refl, ap, ◌∙◌, ⊎_elim, one-add, arith}
 use Rattle.std.proofs.lemmas.Bool.{and_parts, and_from, lt-ltb, le-ltb, le-leb, eq-eqb, ne_eqb, cond-true, cond-false, ltb-true, leb-true, eqb-true, cases_order, cases_lt, cases_eq, not-true, true≢false}
 use Rattle.std.proofs.lemmas.List.Sums.{prefix_len-le-length}
 use Rattle.groups.specs.declared.items.Item.{Item}
@@ -60,6 +60,15 @@ place_here p x xs h = cond-false _ _ _ (le-ltb _ _ h)
 
 pub place_within : (p : ℕ) (xs : List Item) → place_of p xs ≤ length xs
 place_within p xs = prefix_len-le-length (λ i. ltb i.plate p) xs
+
+-- the sign of the first item with the plate is the one that the items give it
+pub sign_of_found : (xs : List Item) (p : ℕ) → option_map (λ i. i.sign) (find (λ i. i.plate == p) xs) ≡ sign_at xs p
+sign_of_found [] p = refl
+sign_of_found (x ∷ xs) p = go (x.plate == p) refl
+  where
+    go : (t : Bool) → (x.plate == p) ≡ t → option_map (λ i. i.sign) (cond t (Some x) (find (λ i. i.plate == p) xs)) ≡ cond t (Some x.sign) (sign_at xs p)
+    go true e = refl
+    go false e = sign_of_found xs p
 
 -- the item that stands at the place of p
 pub sign_found : (p : ℕ) (xs : List Item) (d : Item) (n : ℕ) → n ≡ place_of p xs → n < length xs → (get_or xs n d).plate ≡ p → sign_at xs p ≡ Some (get_or xs n d).sign

@@ -1,5 +1,7 @@
 // What a spelled group answers, and how it takes one more item.
-ghost use Rattle.std.specs.Prelude.{◌≡◌, ◌+◌, ◌<◌, ◌≤◌, true, [], ◌∷◌, ◌++◌, length, take, drop, if◌then◌else◌};
+ghost use Rattle.std.specs.Prelude.{◌≡◌, ◌+◌, ◌<◌, ◌≤◌, true, [], ◌∷◌, ◌++◌, length, take, drop, if◌then◌else◌, ◌==◌, find};
+ghost use Rattle.std.specs.Option.{option_map};
+ghost use Rattle.groups.specs.declared.items.Item.{Item};
 ghost use Rattle.groups.specs.Items.{rising, sign_at, insert, place_of};
 ghost use Rattle.groups.specs.Groups.{items_of, takes};
 
@@ -35,6 +37,7 @@ impl Group {
     }
 
     // The sign that the group gives a plate, if it names it.
+    #[tactic(auto, using(crate::proofs::Rising::sign_of_found))]
     pub fn sign_of(&self, plate: u32) -> Option<Sign>
         ensures { result ≡ sign_at (items_of self.now) plate }
     {
@@ -74,17 +77,14 @@ impl Group {
     }
 }
 
-// The sign that rising items give a plate, if they name it.
+// The sign of the first item with a plate, if there is one.
 fn sign_among(items: &[Item], plate: u32) -> Option<Sign>
-    requires { rising 0 items.now ≡ true }
-    ensures { result ≡ sign_at items.now plate }
+    ensures { result ≡ option_map (λ (i : Item). i.sign) (find (λ (i : Item). i.plate == plate) items.now) }
 {
-    let at = place_of(items, plate);
-    if at < items.len() && items[at].plate == plate {
-        Some(items[at].sign)
-    } else {
-        None
-    }
+    items
+        .iter()
+        .find(|item| item.plate == plate)
+        .map(|item| item.sign)
 }
 
 // How many of the items stand before the place of a plate.

@@ -64,11 +64,11 @@ place_within p xs = prefix_len-le-length (λ i. ltb i.plate p) xs
 -- the sign of the first item with the plate is the one that the items give it
 pub sign_of_found : (xs : List Item) (p : ℕ) → option_map (λ i. i.sign) (find (λ i. i.plate == p) xs) ≡ sign_at xs p
 sign_of_found [] p = refl
-sign_of_found (x ∷ xs) p = go (x.plate == p) refl
+sign_of_found (x ∷ xs) p = here (x.plate == p) (sign_of_found xs p)
   where
-    go : (t : Bool) → (x.plate == p) ≡ t → option_map (λ i. i.sign) (cond t (Some x) (find (λ i. i.plate == p) xs)) ≡ cond t (Some x.sign) (sign_at xs p)
-    go true e = refl
-    go false e = sign_of_found xs p
+    here : (t : Bool) → option_map (λ i. i.sign) (find (λ i. i.plate == p) xs) ≡ sign_at xs p → option_map (λ i. i.sign) (cond t (Some x) (find (λ i. i.plate == p) xs)) ≡ cond t (Some x.sign) (sign_at xs p)
+    here true e = refl
+    here false e = e
 
 -- the item that stands at the place of p
 pub sign_found : (p : ℕ) (xs : List Item) (d : Item) (n : ℕ) → n ≡ place_of p xs → n < length xs → (get_or xs n d).plate ≡ p → sign_at xs p ≡ Some (get_or xs n d).sign

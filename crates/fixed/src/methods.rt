@@ -1,6 +1,6 @@
 // What a row answers, and how it takes one more item.
 ghost use Rattle.std.specs.Prelude.{◌≡◌, ◌+◌, ◌<◌, ◌≤◌, [], ◌∷◌, ◌++◌, length, take, drop, is_ok, if◌then◌else◌, nat_lt};
-ghost use Rattle.fixed.specs.Rows.{held};
+ghost use Rattle.fixed.specs.Rows.{held, less_in_front, behind_less};
 
 use super::row::Row;
 
@@ -55,6 +55,28 @@ impl<T: Copy, const N: usize> Row<T, N> {
         self.count = count + 1;
         Ok(())
     }
+}
+
+impl<T: Copy + Ord, const N: usize> Row<T, N> {
+    // Takes one more item, behind those at the front that are less. Refused, and nothing taken, where all places are.
+    pub fn put_in_order(&mut self, item: T) -> Result<(), Full>
+        ensures room { is_ok result ≡ nat_lt (length (held self.old)) N }
+        ensures after { held self.new ≡ (if is_ok result then behind_less T.cmp item (held self.old) else held self.old) }
+    {
+        let at = less_in_front(self.all(), item);
+        self.insert(at, item)
+    }
+}
+
+// How many items at the front are less than an item.
+fn less_in_front<T: Copy + Ord>(items: &[T], item: T) -> usize
+    ensures count { result ≡ less_in_front T.cmp item items.now }
+    ensures within { result ≤ length items.now }
+{
+    items
+        .iter()
+        .take_while(|other| (*other).cmp(&item).is_lt())
+        .count()
 }
 
 // Puts an item at a place of the first `count`, of which those from there on move up by one.

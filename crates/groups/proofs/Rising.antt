@@ -70,34 +70,6 @@ sign_of_found (x ∷ xs) p = here (x.plate == p) (sign_of_found xs p)
     here true e = refl
     here false e = e
 
--- the item that stands at the place of p
-pub sign_found : (p : ℕ) (xs : List Item) (d : Item) (n : ℕ) → n ≡ place_of p xs → n < length xs → (get_or xs n d).plate ≡ p → sign_at xs p ≡ Some (get_or xs n d).sign
-sign_found p [] d n e h q = absurd (omega arith)
-sign_found p (x ∷ xs) d zero e h q = ⊎_elim (λ lt. absurd (omega (arith, place_more p x xs lt))) (λ le. cond-true _ _ _ (eq-eqb _ _ q)) (cases_lt x.plate p)
-sign_found p (x ∷ xs) d (suc n) e h q =
-    ⊎_elim
-    (λ lt. cond-false _ _ _ (ne_eqb x.plate p (λ q'. omega arith)) ∙ sign_found p xs d n (omega (arith, place_more p x xs lt)) (omega arith) q)
-    (λ le. absurd (omega (arith, place_here p x xs le)))
-    (cases_lt x.plate p)
-
--- nothing else names p
-pub sign_missing : (p low : ℕ) (xs : List Item) (d : Item) (n : ℕ) → rising low xs ≡ true → n ≡ place_of p xs → (n < length xs → (get_or xs n d).plate ≡ p → ⊥) → sign_at xs p ≡ None
-sign_missing p low [] d n r e h = refl
-sign_missing p low (x ∷ xs) d zero r e h =
-    ⊎_elim
-    (λ lt. absurd (omega (arith, place_more p x xs lt)))
-    (λ le.
-    cond-false _ _ _ (ne_eqb x.plate p (h (omega arith)))
-    ∙ unnamed_below p x.plate xs le (rising_step low x xs r).rest)
-    (cases_lt x.plate p)
-sign_missing p low (x ∷ xs) d (suc n) r e h =
-    ⊎_elim
-    (λ lt.
-    cond-false _ _ _ (ne_eqb x.plate p (λ q. omega arith))
-    ∙ sign_missing p x.plate xs d n (rising_step low x xs r).rest (omega (arith, place_more p x xs lt)) (λ k q. h (omega arith) q))
-    (λ le. absurd (omega (arith, place_here p x xs le)))
-    (cases_lt x.plate p)
-
 -- a new item goes to its place
 pub insert_at : (x : Item) (xs : List Item) (n : ℕ) → n ≡ place_of x.plate xs → sign_at xs x.plate ≡ None → insert x xs ≡ take n xs ++ (x ∷ drop n xs)
 insert_at x [] zero e u = refl

@@ -37,7 +37,6 @@ impl Group {
     }
 
     // The sign that the group gives a plate, if it names it.
-    #[tactic(auto, using(crate::proofs::Rising::sign_of_found))]
     pub fn sign_of(&self, plate: u32) -> Option<Sign>
         ensures { result ≡ sign_at (items_of self.now) plate }
     {
@@ -77,8 +76,15 @@ impl Group {
     }
 }
 
-// The sign of the first item with a plate, if there is one.
+// The sign that items give a plate, if they name it.
 fn sign_among(items: &[Item], plate: u32) -> Option<Sign>
+    ensures { result ≡ sign_at items.now plate }
+{
+    first_with(items, plate)
+}
+
+// The sign of the first item with a plate, if there is one.
+fn first_with(items: &[Item], plate: u32) -> Option<Sign>
     ensures { result ≡ option_map (λ (i : Item). i.sign) (find (λ (i : Item). i.plate == plate) items.now) }
 {
     items

@@ -4,8 +4,10 @@ use Rattle.std.specs.Ordering.{is_lt}
 use Rattle.std.specs.List.{ContainsAt as Has}
 use Rattle.std.proofs.ByRecursion.{All-append, All-take, All-drop, All-get_or}
 use Rattle.std.proofs.lemmas.List.{length-append, length-take-le, length-drop}
-use Rattle.std.proofs.lemmas.List.Sums.{prefix_len-drop_yes, prefix_len-drop_no, prefix_len-drop_all}
+use Rattle.std.specs.List.{prefix_len}
+use Rattle.std.proofs.lemmas.List.Sums.{prefix_len-le-length}
 use Rattle.std.proofs.lemmas.Bool.{cases_Bool, cond-true, cond-false}
+use Rattle.fixed.specs.Rows.{less_in_front}
 use Rattle.groups.specs.declared.items.Item.{Item}
 use Rattle.groups.specs.Rises.{climbing}
 use Rattle.meaning.specs.Tables.{before, put_in_order}
@@ -17,42 +19,22 @@ use Rattle.placed.specs.Signs.{Within}
 use Rattle.placed.specs.Spelling.{spell}
 use Rattle.placed.proofs.Ordered.{less_before}
 use Rattle.placed.proofs.Spelled.{same_spelled}
-use Rattle.rows.specs.Ordered.{InOrderOver, front, PlaceOver, PutOver}
+use Rattle.rows.specs.Ordered.{PutsInOrder}
 use Rattle.rows.specs.Rows.{spell_all, AllWithin}
 
 -- ## Finding the place
 
--- k groups were passed: with those that are still to be counted they are all at the front that come before g, over any frame that has the levers
-abbrev pub Passed : Placed → List Placed → ℕ → Type 0
-Passed g gs k = (k ≤ length gs) × ((ps : List ℕ) → climbing 0 ps ≡ true → AllWithin (length ps) gs → Within (length ps) g → k + front ps g (drop k gs) ≡ front ps g gs)
+-- how many of the groups stand at the front and come before the group g, over these plates
+abbrev pub front : List ℕ → Placed → List Placed → ℕ
+front ps g gs = prefix_len (λ h. before (spell ps h) (spell ps g)) gs
 
-module _ (g : Placed) (gs : List Placed) (k : ℕ) where
-  -- what `<` answers of the group at place k
-  less_at : (d : Placed) (t : Bool) → k < length gs → t ≡ is_lt (order (get_or gs k d) g) → (ps : List ℕ) → climbing 0 ps ≡ true → AllWithin (length ps) gs → Within (length ps) g → t ≡ before (spell ps (get_or gs k d)) (spell ps g)
-  less_at d t l e ps r a w = less_before ps (get_or gs k d) g t r (All-get_or (Within (length ps)) gs k d l a) w e
-
-  -- one more comes before g
-  pub passed_more : (d : Placed) (t : Bool) → k < length gs → t ≡ is_lt (order (get_or gs k d) g) → t ≡ true → Passed g gs k → Passed g gs (k + 1)
-  passed_more d t l e y p = (
-    omega arith,
-    (λ ps r a w.
-        omega (arith, p.1 ps r a w, prefix_len-drop_yes (λ h. before (spell ps h) (spell ps g)) gs k d l (sym (less_at d t l e ps r a w) ∙ y))),
-  )
-
-  -- the next one does not
-  pub passed_here : (d : Placed) (t : Bool) → k < length gs → t ≡ is_lt (order (get_or gs k d) g) → t ≡ false → Passed g gs k → PlaceOver g gs k
-  passed_here d t l e y p = record {
-    inside = p.0;
-    counts = λ ps r a w.
-        omega (arith, p.1 ps r a w, prefix_len-drop_no (λ h. before (spell ps h) (spell ps g)) gs k d l (sym (less_at d t l e ps r a w) ∙ y));
-  }
-
-  -- no more is left
-  pub passed_all : length gs ≤ k → Passed g gs k → PlaceOver g gs k
-  passed_all l p = record {
-    inside = p.0;
-    counts = λ ps r a w. omega (arith, p.1 ps r a w, prefix_len-drop_all (λ h. before (spell ps h) (spell ps g)) gs k l);
-  }
+-- those at the front that are less than g are those that come before it, over any frame that has the levers
+pub front_counts : (g : Placed) (gs : List Placed) (ps : List ℕ) → climbing 0 ps ≡ true → AllWithin (length ps) gs → Within (length ps) g → less_in_front order g gs ≡ front ps g gs
+front_counts g [] ps r a w = refl
+front_counts g (h ∷ gs) ps r a w =
+    let first = less_before ps h g (is_lt (order h g)) r a.0 w refl in
+    let others = front_counts g gs ps r a.1 w in
+    λ i. cond (first i) (1 + others i) 0
 
 -- ## Putting it there
 
@@ -81,19 +63,13 @@ module _ (ps : List ℕ) (g : Placed) (r : climbing 0 ps ≡ true) (w : Within (
           ap (λ k. spell_all ps (take k (h ∷ gs) ++ (g ∷ drop k (h ∷ gs)))) (cond-false (before x s) (1 + front ps g gs) 0 b)
           ∙ sym (cond-true (before s x) (s ∷ x ∷ spell_all ps gs) (cond (before x s) (x ∷ put_in_order s (spell_all ps gs)) (x ∷ spell_all ps gs)) (⊎_elim (λ f. f) (λ f. absurd (other h (has_first h gs) (same_spelled ps h g r a.0 w (order_is_strict.total x s b f)))) (cases_Bool (before s x))))
 
--- over a frame that has the levers, g has its place by the order then
-pub put_spelled : (g : Placed) (old new : List Placed) → PutOver g old new → InOrderOver g old true new
-put_spelled g old new p ps r a w other =
-    ap (spell_all ps) p.is ∙ ap (λ k. spell_all ps (take k old ++ (g ∷ drop k old))) (p.place.counts ps r a w) ∙ front_put ps g r w old a other
-
--- it and the others name no lever from place n on, where neither did
-pub put_within : (g : Placed) (old new : List Placed) → PutOver g old new → (n : ℕ) → AllWithin n old → Within n g → AllWithin n new
-put_within g old new p n a w =
-    subst (AllWithin n) (sym p.is) (All-append (Within n) (take p.at old) (g ∷ drop p.at old) (All-take (Within n) p.at old a) (w, All-drop (Within n) p.at old a))
-
--- there is one more
-pub put_count : (g : Placed) (old new : List Placed) → PutOver g old new → length new ≡ length old + 1
-put_count g old new p =
-    ap length p.is
-    ∙ length-append (take p.at old) (g ∷ drop p.at old)
-    ∙ omega (arith, p.place.inside, length-take-le p.at old p.place.inside, length-drop p.at old)
+pub puts_in_order : PutsInOrder
+puts_in_order g old =
+    let k = less_in_front order g old in
+    record {
+      over = λ ps r a w other. ap (λ j. spell_all ps (take j old ++ (g ∷ drop j old))) (front_counts g old ps r a w) ∙ front_put ps g r w old a other;
+      within = λ n a w. All-append (Within n) (take k old) (g ∷ drop k old) (All-take (Within n) k old a) (w, All-drop (Within n) k old a);
+      count =
+          length-append (take k old) (g ∷ drop k old)
+          ∙ (let inside = prefix_len-le-length (λ h. is_lt (order h g)) old in omega (arith, inside, length-take-le k old inside, length-drop k old));
+    }

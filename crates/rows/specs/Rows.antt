@@ -1,15 +1,16 @@
 -- What a row holds. Assumes nothing.
-use Rattle.std.specs.Prelude.{ℕ, List, map, take}
+use Rattle.std.specs.Prelude.{ℕ, List, map}
 use Rattle.std.specs.List.{AllByRecursion}
+use Rattle.fixed.specs.declared.row.Row.{Row}
+use Rattle.fixed.specs.Rows.{held}
 use Rattle.groups.specs.declared.items.Item.{Item}
 use Rattle.placed.specs.declared.Placed.{Placed}
 use Rattle.placed.specs.Signs.{Within}
 use Rattle.placed.specs.Spelling.{spell}
-use Rattle.rows.specs.declared.row.Row.{Row}
 
 -- the groups of a row, in their order
-abbrev pub groups_of : {n : ℕ} → Row n → List Placed
-groups_of r = take r.count r.groups
+abbrev pub groups_of : {n : ℕ} → Row Placed n → List Placed
+groups_of r = held r
 
 -- what the groups spell over the plates of a frame
 abbrev pub spell_all : List ℕ → List Placed → List (List Item)

@@ -1,6 +1,11 @@
-// Rows of groups with a fixed number of places, of which the first some are taken: a table has 512, the lines in force and
-// the cut list 128. specs/Rows.antt says what a row holds.
+// Rows of groups: a table has 512 places, the lines in force and the cut list 128. specs/Rows.antt says what a row of groups
+// spells, specs/Ordered.antt that a group put in by the order on groups by places has its place by the table's order.
 #![tactic(auto)]
 
-pub mod methods;
-pub mod row;
+ghost use Rattle.rows.specs.Ordered.{PutsInOrder};
+
+// A group put behind those at the front that are less has its place by the table's order, over any frame that has the levers.
+#[tactic(auto, using(crate::proofs::Ordered::puts_in_order))]
+pub fn puts_in_order()
+    ensures { PutsInOrder }
+{}

@@ -5,7 +5,6 @@
 ghost use Rattle.rows.specs.Ordered.{PutsInOrder};
 
 // A group put behind those at the front that are less has its place by the table's order, over any frame that has the levers.
-#[tactic(auto, using(crate::proofs::Ordered::puts_in_order))]
 pub fn puts_in_order()
     ensures { PutsInOrder }
 {}

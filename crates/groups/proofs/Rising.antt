@@ -1,5 +1,5 @@
 -- Items that rise: where a plate is looked for, and where a new item goes. Assumes nothing.
-use Rattle.std.proofs.Common.{◌≡◌, ℕ, zero, suc, ◌<◌, ◌≤◌, Bool, true, false, cond, eqb, ◌==◌, find, ltb, List, [], ◌∷◌, ◌++◌, length, get_or, take, drop, is_some, Some, None, Option, option_map, sym, refl, ap, ◌∙◌, ⊎_elim, one-add, arith}
+use Rattle.std.proofs.Common.{◌≡◌, ℕ, zero, suc, ◌<◌, ◌≤◌, Bool, true, false, cond, eqb, ◌==◌, find, ltb, List, [], ◌∷◌, ◌++◌, length, take, drop, is_some, Some, None, Option, option_map, sym, refl, ap, ◌∙◌, ⊎_elim, one-add, arith}
 use Rattle.std.proofs.lemmas.Bool.{and_parts, and_from, lt-ltb, le-ltb, le-leb, eq-eqb, ne_eqb, cond-true, cond-false, ltb-true, leb-true, eqb-true, cases_order, cases_lt, cases_eq, not-true, true≢false}
 use Rattle.std.proofs.lemmas.List.Sums.{prefix_len-le-length}
 use Rattle.groups.specs.declared.items.Item.{Item}

@@ -1,6 +1,6 @@
 -- Texts put one behind the other into a line. Assumes nothing.
-use Rattle.std.proofs.Common.{◌≡◌, ℕ, zero, suc, ◌+◌, ◌<◌, ◌≤◌, List, [], ◌∷◌, ◌++◌, length, take, set, sym, refl, ap, ◌∙◌, append_assoc, append-nil, arith}
-use Rattle.std.proofs.lemmas.List.{take_all, take_at, take_more_set, length-take-le, length_push}
+use Rattle.std.proofs.Common.{◌≡◌, Bool, true, false, cond, ltb, ltb-true, ltb-false, length-take, ℕ, zero, suc, ◌≤◌, List, [], ◌∷◌, ◌++◌, length, take, sym, refl, ap, ◌∙◌, append_assoc, append-nil, arith}
+use Rattle.std.proofs.lemmas.List.{take_all, take_at, length_push}
 use Rattle.lines.specs.declared.line.Line.{Line}
 use Rattle.lines.specs.Lines.{text_of, cut}
 
@@ -18,19 +18,21 @@ pub behind : (s a b t u : List ℕ) → t ≡ cut (s ++ a) → u ≡ cut (t ++ b
 unfolding cut
 behind s a b t u e f = f ∙ ap (λ l. take 320 (l ++ b)) e ∙ take_front 320 (s ++ a) b ∙ ap (take 320) (append_assoc s a b)
 
--- one byte more
-pub put_more : (bytes : List ℕ) (n b : ℕ) → length bytes ≡ 320 → n < 320 → take (n + 1) (set bytes n b) ≡ cut (take n bytes ++ (b ∷ []))
-put_more bytes n b long h =
-    let few : length (take n bytes) ≡ n = length-take-le n bytes (omega arith) in
-    take_more_set bytes n b (omega arith) ∙ sym (cut_short (take n bytes ++ (b ∷ [])) (omega (arith, length_push (take n bytes) b)))
-
-pub put_full : (bytes : List ℕ) (n b : ℕ) → length bytes ≡ 320 → n ≤ 320 → 320 ≤ n → take n bytes ≡ cut (take n bytes ++ (b ∷ []))
+-- a full line takes none
+put_full : (text : List ℕ) (b : ℕ) → length text ≤ 320 → 320 ≤ length text → cut (text ++ (b ∷ [])) ≡ text
 unfolding cut
-put_full bytes n b long h k = sym (take_at (take n bytes) (b ∷ []) 320 (length-take-le n bytes (omega arith) ∙ omega arith))
+put_full text b few all = take_at text (b ∷ []) 320 (omega arith)
 
-nothing : (bytes : List ℕ) (n : ℕ) → length bytes ≡ 320 → n ≤ 320 → take n bytes ≡ cut (take n bytes ++ [])
-nothing bytes n long h = sym (ap cut (append-nil (take n bytes)) ∙ cut_short (take n bytes) (omega (arith, length-take-le n bytes (omega arith))))
+-- one byte more, as far as there is room for it
+pub put_byte : (text new : List ℕ) (b : ℕ) (t : Bool) → length text ≤ 320 → t ≡ ltb (length text) 320 → new ≡ cond t (text ++ (b ∷ [])) text → new ≡ cut (text ++ (b ∷ []))
+put_byte text new b true few room e =
+    let less = ltb-true (length text) 320 (sym room) in
+    e ∙ sym (cut_short (text ++ (b ∷ [])) (omega (arith, length_push text b)))
+put_byte text new b false few room e = e ∙ sym (put_full text b few (ltb-false (length text) 320 (sym room)))
+
+pub text_short : (l : Line) → length (text_of l) ≤ 320
+text_short l = omega (arith, length-take l.bytes.count l.bytes.places, l.bytes.few)
 
 -- nothing put behind the text of a line leaves it
 pub unchanged : (l : Line) → text_of l ≡ cut (text_of l ++ [])
-unchanged l = nothing l.bytes l.len l.long l.few
+unchanged l = sym (ap cut (append-nil (text_of l)) ∙ cut_short (text_of l) (text_short l))

@@ -2,45 +2,31 @@
 ghost use Rattle.std.specs.Prelude.{◌≡◌, ◌≤◌, List, [], ◌∷◌, ◌++◌, length, Some, decimal};
 ghost use Rattle.std.specs.List.{flat_map};
 ghost use Rattle.groups.specs.Groups.{items_of};
-ghost use Rattle.groups.specs.Items.{mark_of};
 ghost use Rattle.lines.specs.Lines.{text_of, cut};
 ghost use Rattle.lines.specs.Texts.{item_text, next_text, row_text, group_text, write_answer, write_after};
 
 use super::line::Line;
 use faults::{Fault, Place, Refusal};
+use fixed::row::Row;
 use groups::group::Group;
-use groups::items::{Item, Sign};
+use groups::items::Item;
 
 // The fewest bytes of a buffer that is written into, and the most of a line.
 pub const LINE: usize = 320;
-
-// The byte of a sign.
-fn mark(sign: Sign) -> u8
-    ensures { result ≡ mark_of sign }
-{
-    match sign {
-        Sign::Plus => b'+',
-        Sign::Minus => b'-',
-        Sign::Star => b'*',
-    }
-}
 
 impl Line {
     // A line with no text.
     pub fn new() -> Line
         ensures { text_of result ≡ [] }
     {
-        Line {
-            bytes: [0; 320],
-            len: 0,
-        }
+        Line { bytes: Row::new(0) }
     }
 
     // The text.
     pub fn text(&self) -> &[u8]
         ensures { result.now ≡ text_of self.now }
     {
-        &self.bytes[0..self.len]
+        self.bytes.all()
     }
 
     // Puts a text behind the text, as far as the line holds it.
@@ -85,11 +71,7 @@ impl Line {
     fn push(&mut self, byte: u8)
         ensures { text_of self.new ≡ cut (text_of self.old ++ (byte ∷ [])) }
     {
-        let len = self.len;
-        if len < LINE {
-            self.bytes[len] = byte;
-            self.len = len + 1;
-        }
+        let _ = self.bytes.push(byte);
     }
 
     // A text behind the text, byte by byte.
@@ -119,7 +101,7 @@ impl Line {
         ensures { text_of self.new ≡ cut (text_of self.old ++ item_text item) }
     {
         self.append_digits(u64::from(item.plate));
-        self.push(mark(item.sign));
+        self.push(u8::from(item.sign));
     }
 
     // Items behind the text, each with a space in front.

@@ -118,9 +118,9 @@ impl Line {
     fn append_row(&mut self, items: &[Item])
         ensures { text_of self.new ≡ cut (text_of self.old ++ row_text items.now) }
     {
-        if !items.is_empty() {
-            self.append_item(items[0]);
-            self.append_next(&items[1..]);
+        if let [first, rest @ ..] = items {
+            self.append_item(*first);
+            self.append_next(rest);
         }
     }
 

@@ -1,25 +1,42 @@
 -- Where a plate stands among fitted ones, and one more plate behind them. Assumes nothing.
-use Rattle.std.proofs.Common.{◌≡◌, ℕ, zero, suc, ◌-◌, ◌<◌, ◌≤◌, true, ltb, List, [], ◌∷◌, ◌++◌, length, get_or, take, Some, None, sym, refl, ap, ◌∙◌, subst, ⊎_elim, arith}
-use Rattle.std.specs.Option.{option_map}
-use Rattle.std.proofs.lemmas.Bool.{eq-eqb, ne_eqb, ltb-true, leb-true, and_parts, cond-true, cond-false, cases_eq}
+use Rattle.std.proofs.Common.{cond, not, ◌+◌, ◌≡◌, ◌==◌, length-take, ℕ, zero, suc, ◌-◌, ◌<◌, ◌≤◌, true, ltb, List, [], ◌∷◌, ◌++◌, length, get_or, take, Some, None, sym, refl, ap, ◌∙◌, subst, ⊎_elim, arith}
+use Rattle.std.specs.List.{position_or_len}
+use Rattle.std.proofs.lemmas.Bool.{lt-ltb, le-ltb, eq-eqb, ne_eqb, ltb-true, leb-true, and_parts, cond-true, cond-false, cases_eq}
 use Rattle.std.proofs.lemmas.Bool.Decides.{nat_tests, same_from_decides, Decides-ltb}
 use Rattle.groups.specs.Items.{is_plate}
 use Rattle.groups.specs.Rises.{climbing}
 use Rattle.groups.proofs.Climbing.{climbing_step, climbing_more, climbing_above, one_place, place_cases}
-use Rattle.frames.specs.Fitted.{place_in, fit_refusal}
+use Rattle.frames.specs.declared.plates.Plates.{Plates}
+use Rattle.frames.specs.Fitted.{fitted, place_in, fit_refusal}
+
+-- how many plates stand in front of one
+before : (ps : List ℕ) (p i : ℕ) → i < length ps → get_or ps i 0 ≡ p → ((k : ℕ) → k < i → get_or ps k 0 ≡ p → ⊥) → position_or_len (λ q. q == p) ps ≡ i
+before [] p i l e n = absurd (omega arith)
+before (q ∷ qs) p zero l e n = cond-false _ _ _ (ap not (eq-eqb q p e))
+before (q ∷ qs) p (suc i) l e n =
+    cond-true _ _ _ (ap not (ne_eqb q p (n 0 (omega arith))))
+    ∙ ap (λ k. 1 + k) (before qs p i (omega arith) e (λ k h. n (suc k) (omega arith)))
+    ∙ omega arith
+
+all_others : (ps : List ℕ) (p : ℕ) → ((k : ℕ) → k < length ps → get_or ps k 0 ≡ p → ⊥) → position_or_len (λ q. q == p) ps ≡ length ps
+all_others [] p n = refl
+all_others (q ∷ qs) p n =
+    cond-true _ _ _ (ap not (ne_eqb q p (n 0 (omega arith))))
+    ∙ ap (λ k. 1 + k) (all_others qs p (λ k h. n (suc k) (omega arith)))
+    ∙ omega arith
 
 -- the first place of a plate
 pub place_first : (ps : List ℕ) (p i : ℕ) → i < length ps → get_or ps i 0 ≡ p → ((k : ℕ) → k < i → get_or ps k 0 ≡ p → ⊥) → place_in ps p ≡ Some i
-place_first [] p i l e n = absurd (omega arith)
-place_first (q ∷ qs) p zero l e n = cond-true _ _ _ (eq-eqb q p e)
-place_first (q ∷ qs) p (suc i) l e n =
-    cond-false _ _ _ (ne_eqb q p (n 0 (omega arith)))
-    ∙ ap (option_map suc) (place_first qs p i (omega arith) e (λ k h. n (suc k) (omega arith)))
+place_first ps p i l e n =
+    ap (λ j. cond (ltb j (length ps)) (Some j) None) (before ps p i l e n) ∙ cond-true _ _ _ (lt-ltb i (length ps) l)
 
 pub place_none : (ps : List ℕ) (p : ℕ) → ((k : ℕ) → k < length ps → get_or ps k 0 ≡ p → ⊥) → place_in ps p ≡ None
-place_none [] p n = refl
-place_none (q ∷ qs) p n =
-    cond-false _ _ _ (ne_eqb q p (n 0 (omega arith))) ∙ ap (option_map suc) (place_none qs p (λ k h. n (suc k) (omega arith)))
+place_none ps p n =
+    ap (λ j. cond (ltb j (length ps)) (Some j) None) (all_others ps p n) ∙ cond-false _ _ _ (le-ltb (length ps) (length ps) (omega arith))
+
+-- at most 32 plates are fitted
+pub few_fitted : (f : Plates) → length (fitted f) ≤ 32
+few_fitted f = omega (arith, length-take f.plates.count f.plates.places, f.plates.few)
 
 -- of climbing plates each has one place
 pub place_at : (ps : List ℕ) (i : ℕ) → climbing 0 ps ≡ true → i < length ps → place_in ps (get_or ps i 0) ≡ Some i

@@ -1,6 +1,6 @@
 -- The plates of a frame, and what is looked for among them. Assumes nothing.
-use Rattle.std.specs.Prelude.{◌≡◌, ℕ, suc, ◌≤◌, true, cond, not, List, [], ◌∷◌, ◌++◌, length, take, Some, None, Ok, Err, Option, Result, ◌==◌, nat_le}
-use Rattle.std.specs.Option.{option_map}
+use Rattle.std.specs.Prelude.{position, ◌≡◌, ℕ, ◌<◌, ◌≤◌, true, cond, not, List, [], ◌∷◌, ◌++◌, length, take, Some, None, Ok, Err, Option, Result, ◌==◌, nat_le, slice_index}
+use Rattle.fixed.specs.Rows.{held}
 use Rattle.faults.specs.declared.Fault.{Fault}
 use Rattle.faults.specs.declared.Place.TheVariants.{Nowhere, Plate}
 use Rattle.faults.specs.declared.Refusal.{Refusal}
@@ -16,12 +16,11 @@ use Rattle.placed.specs.Spelling.{spell}
 
 -- the fitted plates, in rising order
 abbrev pub fitted : Plates → List ℕ
-fitted f = take f.count f.plates
+fitted f = held f.plates
 
 -- the place of a plate among others, counted from 0
 abbrev pub place_in : List ℕ → ℕ → Option ℕ
-place_in [] p = None
-place_in (q ∷ qs) p = cond (q == p) (Some 0) (option_map suc (place_in qs p))
+place_in ps p = position (λ q. q == p) ps
 
 -- why a plate cannot be fitted behind others: it is no lever's, it is not above them all, or 32 are there
 abbrev pub fit_refusal : List ℕ → ℕ → Option Refusal
@@ -31,6 +30,11 @@ fit_refusal ps p = cond (not (is_plate p)) (Some Number) (cond (not (climbing 0 
 abbrev pub refused_by : Option Refusal → Result (Unit {0}) Fault
 refused_by None = Ok tt
 refused_by (Some r) = Err (fault_of r Nowhere)
+
+-- what fitting plates one after the other answers: all of them, or why one cannot follow those before it, which all can
+abbrev pub FitsAs : List ℕ → Result Plates Fault → Type 0
+FitsAs ps (Ok f) = fitted f ≡ ps
+FitsAs ps (Err e) = (n : ℕ) × (n < length ps) × (climbing 0 (take n ps) ≡ true) × (refused_by (fit_refusal (take n ps) (slice_index ps n)) ≡ Err e)
 
 -- p is the lowest plate of the items that is not fitted
 pub record LowestMissing (ps : List ℕ) (is : List Item) (p : ℕ) : Type 0 where

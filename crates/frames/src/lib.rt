@@ -3,5 +3,4 @@
 #![tactic(auto)]
 
 pub mod methods;
-mod places;
 pub mod plates;

@@ -107,3 +107,11 @@ pub on_sign : (room : ℕ) (seen : List Item) (at : ℕ) (text : List ℕ) (p : 
 on_sign room seen at text p s h k =
     on_plate room seen at text p h
     ∙ go_on (sign_due (byte_at at (run text)) (symbol (drop (run text) text))) _ s k
+
+-- the reading of an item, where there is room and where there is none
+pub read_item : (room : ℕ) (seen : List Item) (at : ℕ) (text : List ℕ) → read_items room seen at text ≡ (plate_due room seen at (digits_of text) >>= λ p. (sign_due (byte_at at (run text)) (symbol (drop (run text) text)) >>= after_plate (room - 1) seen (byte_at at (run text)) (drop (run text) text) p))
+read_item room seen at text = by (plate_due room seen at (digits_of text)) refl
+  where
+    by : (r : Result ℕ TextFault) → plate_due room seen at (digits_of text) ≡ r → read_items room seen at text ≡ (plate_due room seen at (digits_of text) >>= λ p. (sign_due (byte_at at (run text)) (symbol (drop (run text) text)) >>= after_plate (room - 1) seen (byte_at at (run text)) (drop (run text) text) p))
+    by (Ok p) e = on_plate room seen at text p e ∙ sym (go_on (plate_due room seen at (digits_of text)) _ p e)
+    by (Err f) e = stop_plate room seen at text f e ∙ sym (stop (plate_due room seen at (digits_of text)) _ f e)

@@ -246,3 +246,7 @@ right start text fits = record {
     by_fault : (f : TextFault) → read_group start text ≡ Err f → Answered start text (read_group start text) → Refused start text f
     by_fault f e (good k h q) = absurd (ok_not_err k f (sym q ∙ e))
     by_fault f e (bad k h q) = subst (Refused start text) (same_err {A = List Item} k f (sym q ∙ e)) h
+
+-- so is an answer that is what reading gives
+pub right_by : (start : ℕ) (text : List ℕ) (r : Result (List Item) TextFault) → r ≡ read_group start text → start < 2 ^ 64 → RightAnswer start text r
+right_by start text r e fits = subst (RightAnswer start text) (sym e) (right start text fits)

@@ -36,3 +36,7 @@ right_number start text = record {
   no_number = λ h. ap (λ o. by start (byte_at start (run text)) o (behind text)) (no_plate text h);
   no_end = λ p b t n e. (λ i. by start (byte_at start (run text)) (numeral_plate (digits_of text) p n i) (e i));
 }
+
+-- so is an answer that is what reading gives
+pub right_number_by : (start : ℕ) (text : List ℕ) (r : Result ℕ TextFault) → r ≡ read_plate start text → RightNumber start text r
+right_number_by start text r e = subst (RightNumber start text) (sym e) (right_number start text)

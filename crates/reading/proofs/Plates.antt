@@ -25,7 +25,7 @@ taken start at (Some q) (b ∷ t) p h = absurd (ok_not_err p (text_fault_of refu
 whole : (text : List ℕ) → behind text ≡ [] → digits_of text ≡ text
 whole text e = sym (append-nil (digits_of text)) ∙ ap (λ l. digits_of text ++ l) (sym e) ∙ take-append-drop (run text) text
 
-pub right_number : (start : ℕ) (text : List ℕ) → RightNumber start text (read_plate start text)
+right_number : (start : ℕ) (text : List ℕ) → RightNumber start text (read_plate start text)
 right_number start text = record {
   read = λ p h.
       let t = taken start (byte_at start (run text)) (plate_of (digits_of text)) (behind text) p h in

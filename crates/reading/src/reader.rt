@@ -20,6 +20,7 @@ use groups::methods::HIGHEST_PLATE;
 const MOST_READ: usize = 8;
 
 // The plate that digits spell: no zero in front, and not above the highest plate.
+#[tactic(auto, using(crate::proofs::Values::plate_rules))]
 fn plate_of(digits: Digits) -> Option<u32>
     ensures value { result ≡ plate_of digits.entry.text.now }
     ensures plate { IfSome result (λ p. is_plate p ≡ true) }
@@ -112,7 +113,7 @@ fn more_due(rest: Rest) -> Result<bool, TextFault>
 }
 
 // Reads items to the closing bracket and the end, behind those of the group, of which there is room for so many.
-#[tactic(auto, using(crate::proofs::Items::read_item, crate::proofs::Items::length_insert))]
+#[tactic(auto, using(crate::proofs::Items::item_rules))]
 fn read_items(mut group: Group, room: usize, rest: Rest) -> Result<Group, TextFault>
     requires { length (items_of group) + room ≤ 8 }
     ensures { held_by result ≡ read_items room (items_of group) rest.entry.at rest.entry.text.now }
@@ -170,6 +171,7 @@ pub fn read_plate(text: &[u8], start: usize) -> Result<u32, TextFault>
 }
 
 // Carries the worked examples: no reader that keeps the promise of `read_group` answers one of them otherwise.
+#[tactic(auto, unfolding(crate::specs::Reading::read_items))]
 pub fn examples_stand() -> u8
     ensures { Examples }
 {

@@ -15,7 +15,7 @@ pub(super) struct Rest<'a> {
 
 impl<'a> Rest<'a> {
     // The token at the front.
-    #[tactic(auto, using(crate::proofs::Steps::token_digits_lem, crate::proofs::Steps::token_symbol_lem, crate::proofs::Steps::run_long))]
+    #[tactic(auto, using(crate::proofs::Steps::token_rules))]
     pub(super) fn token(self) -> Token<'a>
         ensures token { TokenOf self.entry.at self.entry.text.now result }
         ensures digits { token_digits result ≡ digits_of self.entry.text.now }

@@ -1,4 +1,4 @@
-use Rattle.std.proofs.Common.{arith, rules}
+use Rattle.std.proofs.Common.{arith}
 use Rattle.std.proofs.lemmas.Grind.{common_steps}
 use Rattle.reading.proofs.Laws.{right_by}
 use Rattle.reading.proofs.reader.whole_group.Goals as goal

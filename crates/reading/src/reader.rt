@@ -132,7 +132,8 @@ fn read_items(mut group: Group, room: usize, rest: Rest) -> Result<Group, TextFa
     }
 }
 
-// Reads an opening bracket and what stands behind it, to the end.
+// Reads an opening bracket and what stands behind it, to the end. Apart from `read_group`, which is proved from this
+// contract alone: `right` takes a proof by hand, since no tactic makes its records.
 fn whole_group(rest: Rest) -> Result<Group, TextFault>
     ensures value { held_by result ≡ read_group rest.entry.at rest.entry.text.now }
     ensures right { RightAnswer rest.entry.at rest.entry.text.now (held_by result) }
@@ -141,7 +142,7 @@ fn whole_group(rest: Rest) -> Result<Group, TextFault>
     read_items(Group::new(), MOST_READ, rest.after(1))
 }
 
-// Reads a number and the end.
+// Reads a number and the end. Apart from `read_plate` for the same reason.
 fn whole_number(rest: Rest) -> Result<u32, TextFault>
     ensures value { result ≡ read_plate rest.entry.at rest.entry.text.now }
     ensures right { RightNumber rest.entry.at rest.entry.text.now result }

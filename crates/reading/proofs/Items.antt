@@ -1,18 +1,14 @@
 -- One item of a group: where its reading stops, and how it goes on. Assumes nothing.
 use Rattle.std.proofs.Common.{◌≡◌, ℕ, zero, suc, ◌-◌, Bool, true, false, cond, ltb, List, [], ◌∷◌, length, drop, Some, None, Ok, Err, Option, Result, sym, refl, ap, ◌∙◌, arith}
-use Rattle.faults.specs.declared.Refusal.TheVariants as refusal
 use Rattle.faults.specs.declared.TextFault.{TextFault}
-use Rattle.faults.specs.Faults.{text_fault_of}
 use Rattle.groups.specs.declared.items.Item.{Item}
 use Rattle.groups.specs.declared.items.Sign.{Sign}
 use Rattle.groups.specs.Items.{insert}
+use Rattle.reading.specs.Grammar.{item}
 use Rattle.reading.specs.Numbers.{run, digits_of, plate_of}
 use Rattle.reading.specs.Reading.{◌>>=◌, numbered, item_number, plate_due, sign_due, more_due, items_from, read_items}
 use Rattle.reading.specs.Tokens.{symbol, byte_at}
 use Rattle.reading.proofs.Steps.{stop, go_on}
-
-abbrev pub item : ℕ → Sign → Item
-item p s = record { plate = p; sign = s }
 
 pub length_insert : (x : Item) (xs : List Item) → length (insert x xs) ≡ suc (length xs)
 length_insert x [] = refl
@@ -22,26 +18,13 @@ length_insert x (i ∷ xs) = by (ltb x.plate i.plate) (length_insert x xs)
     by true h = refl
     by false h = ap suc h
 
--- an answer is not a fault
-pub ok_not_err : {A : Type 0} (x : A) (e : TextFault) → Ok x ≡ Err e → ⊥
-ok_not_err x e h = let z : ◌≡◌ {A = ℕ} 0 1 = cc in omega arith
-
-pub same_ok : {A : Type 0} (x y : A) → ◌≡◌ {A = Result A TextFault} (Ok x) (Ok y) → x ≡ y
-same_ok x y h = cc
-
-pub same_err : {A : Type 0} (x y : TextFault) → ◌≡◌ {A = Result A TextFault} (Err x) (Err y) → x ≡ y
-same_err x y h = cc
-
-pub none_not_some : {A : Type 0} (x : A) → ◌≡◌ {A = Option A} None (Some x) → ⊥
-none_not_some x h = let z : ◌≡◌ {A = ℕ} 0 1 = cc in omega arith
-
 -- no number is taken for an item where no room is left
 no_room : (seen : List Item) (at : ℕ) (ds : List ℕ) (p : ℕ) → plate_due 0 seen at ds ≡ Ok p → ⊥
 no_room seen at ds p h = by (plate_of ds) h
   where
     by : (o : Option ℕ) → (numbered at o >>= item_number 0 seen at) ≡ Ok p → ⊥
-    by None h = ok_not_err p (text_fault_of refusal.Number at) (sym h)
-    by (Some q) h = ok_not_err p (text_fault_of refusal.Ninth at) (sym h)
+    by None h = cc
+    by (Some q) h = cc
 
 -- what is due behind the number of an item
 abbrev pub after_plate : ℕ → List Item → ℕ → List ℕ → ℕ → Sign → Result (List Item) TextFault

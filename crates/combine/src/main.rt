@@ -2,8 +2,6 @@
 // combination of two of the groups on each lever where they oppose, and last how many of each there were.
 #![tactic(auto)]
 
-ghost use Rattle.std.specs.Prelude.{◌<◌, length};
-
 use entries::{answer_group, read_placed, tell};
 use frames::plates::Plates;
 use groups::group::Group;
@@ -29,6 +27,15 @@ struct Entry<'a> {
 #[derive(Clone, Copy)]
 struct Numbered {
     number: u32,
+    placed: Placed,
+}
+
+// A combination of the groups of two lines, on a plate.
+#[derive(Clone, Copy)]
+struct Combination {
+    first: u32,
+    second: u32,
+    plate: u32,
     placed: Placed,
 }
 
@@ -77,17 +84,14 @@ fn report<W: Write>(heap: Global, input: &[u8], out: &mut W) -> io::Result<()> {
     out.write_all(line.text())
 }
 
-// Reads every line, and answers each.
+// Reads every line, and answers each. A line ends with a line feed or with the input.
 fn read_lines<'a, W: Write>(heap: Global, input: &'a [u8], out: &mut W) -> io::Result<Lines<'a>> {
     let mut entries = Vec::new(heap);
     let mut plates = Vec::new(heap);
     let mut refused: u32 = 0;
-    let mut number: u32 = 0;
-    let mut rest = input;
-    while !rest.is_empty() {
-        let (text, behind) = cut_line(rest);
-        rest = behind;
-        number = number.saturating_add(1);
+    let lines = input.split_inclusive(|byte| *byte == b'\n');
+    for (number, line) in (1..=u32::MAX).zip(lines) {
+        let text = line.strip_suffix(b"\n").unwrap_or(line);
         match read_line(text, number, out)? {
             Some(group) => {
                 entries.push(Entry { number, text })?;
@@ -103,18 +107,6 @@ fn read_lines<'a, W: Write>(heap: Global, input: &'a [u8], out: &mut W) -> io::R
     })
 }
 
-// The first line of a text without its line feed, and what stands behind it.
-fn cut_line(text: &[u8]) -> (&[u8], &[u8])
-    ensures { 0 < length text.now → length result.1.now < length text.now }
-{
-    for (n, byte) in text.iter().enumerate() {
-        if *byte == b'\n' {
-            return (&text[0..n], &text[n + 1..]);
-        }
-    }
-    (text, &[])
-}
-
 // Reads one line, and writes its answer.
 fn read_line<W: Write>(text: &[u8], number: u32, out: &mut W) -> io::Result<Option<Group>> {
     let mut buffer = [0; LINE];
@@ -124,18 +116,17 @@ fn read_line<W: Write>(text: &[u8], number: u32, out: &mut W) -> io::Result<Opti
             Ok(Some(reading.group))
         }
         Err(fault) => {
-            let told = tell(number, fault.record(), &mut buffer);
+            let told = tell(number, fault.into(), &mut buffer);
             write_line(&buffer, told.ok().flatten(), out)?;
             Ok(None)
         }
     }
 }
 
-// Writes the first bytes of a buffer and a line feed.
+// Writes the text at the front of a buffer, if there is one, and a line feed.
 fn write_line<W: Write>(buffer: &[u8], length: Option<usize>, out: &mut W) -> io::Result<()> {
-    if let Some(text) = buffer.get(0..length.unwrap_or(0)) {
-        out.write_all(text)?;
-    }
+    let text = length.and_then(|n| buffer.get(..n)).unwrap_or(&[]);
+    out.write_all(text)?;
     out.write_all(b"\n")
 }
 
@@ -180,7 +171,7 @@ fn write_combinations<W: Write>(
 ) -> io::Result<u64> {
     let mut count: u64 = 0;
     for (i, first) in groups.iter().enumerate() {
-        for second in groups.iter().skip(i + 1) {
+        for second in &groups[i + 1..] {
             count = count.saturating_add(write_pair(plates, *first, *second, out)?);
         }
     }
@@ -197,7 +188,13 @@ fn write_pair<W: Write>(
     let mut count: u64 = 0;
     for (place, plate) in plates.all().iter().enumerate() {
         if let Some(placed) = on_place(first.placed, second.placed, place) {
-            write_combination(plates, (first.number, second.number, *plate), placed, out)?;
+            let combination = Combination {
+                first: first.number,
+                second: second.number,
+                plate: *plate,
+                placed,
+            };
+            write_combination(plates, combination, out)?;
             count = count.saturating_add(1);
         }
     }
@@ -206,20 +203,21 @@ fn write_pair<W: Write>(
 
 // The combination of two groups on the lever at a place, whichever of the two has + there.
 fn on_place(a: Placed, b: Placed, place: usize) -> Option<Placed> {
-    match a.combine(b, place) {
-        Some(placed) => Some(placed),
-        None => b.combine(a, place),
-    }
+    a.combine(b, place).or_else(|| b.combine(a, place))
 }
 
 // Writes one combination, with the numbers of the two lines and the plate on which they are combined.
 fn write_combination<W: Write>(
     plates: &Plates,
-    on: (u32, u32, u32),
-    placed: Placed,
+    combination: Combination,
     out: &mut W,
 ) -> io::Result<()> {
-    let (first, second, plate) = on;
+    let Combination {
+        first,
+        second,
+        plate,
+        placed,
+    } = combination;
     let mut line = Line::new();
     line.put_number(u64::from(first));
     line.put_text(b" ");

@@ -47,6 +47,7 @@ pub fn answer_group(text: &[u8], number: u32, buffer: &mut [u8]) -> Result<Readi
 }
 
 // The answer line of a group that was read.
+#[tactic(auto, using(crate::proofs::Lengths::group_line_rules))]
 fn group_line(number: u32, group: &Group) -> Line
     ensures { text_of result ≡ group_line number (items_of group.now) }
 {
@@ -66,6 +67,7 @@ pub fn tell(number: u32, fault: Fault, buffer: &mut [u8]) -> Result<Option<usize
 }
 
 // The answer line of a fault.
+#[tactic(auto, using(crate::proofs::Lengths::fault_line_rules))]
 fn fault_line(number: u32, fault: Fault) -> Line
     ensures { text_of result ≡ tell_text number fault }
 {
@@ -78,6 +80,7 @@ fn fault_line(number: u32, fault: Fault) -> Line
 }
 
 // Puts a place behind the text of a line. It takes at most 27 bytes.
+#[tactic(auto, using(crate::proofs::Lengths::place_rules))]
 fn put_place(line: &mut Line, place: Place)
     ensures after { text_of line.new ≡ cut (text_of line.old ++ place_text place) }
     ensures short { length (place_text place) ≤ 27 }

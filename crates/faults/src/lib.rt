@@ -6,11 +6,11 @@ ghost use Rattle.faults.specs.Faults.{number_of, layer_of, fault_of, text_fault_
 ghost use Rattle.faults.specs.declared.SheetFault.TheVariants as sheet;
 ghost use Rattle.faults.specs.declared.JournalFault.TheVariants as journal;
 
-// What is refused. `number` gives the number that people know it by.
+// What is refused. Each has the number that people know it by.
 #[derive(Clone, Copy)]
 pub enum Refusal {
     // a journal line that begins with none of the journal's words
-    Word,
+    Word = 1,
     // no number of a plate
     Number,
     // another byte, or the end, where a sign, a space, a bracket or the end is due
@@ -63,13 +63,14 @@ pub enum Place {
 // A fault: the refusal's number, the layer that refuses, and the place.
 #[derive(Clone, Copy, PartialEq, Eq)]
 pub struct Fault {
+    // any number: the customers' record has a number here, and an answer line can tell each one
     pub number: u8,
     pub layer: Layer,
     pub place: Place,
 }
 
 // A fault found while reading a text.
-#[derive(Clone, Copy)]
+#[derive(Clone, Copy, PartialEq, Eq)]
 pub struct TextFault {
     pub fault: Fault,
 }
@@ -94,24 +95,7 @@ impl Refusal {
     pub fn number(self) -> u8
         ensures { result ≡ number_of self }
     {
-        match self {
-            Refusal::Word => 1,
-            Refusal::Number => 2,
-            Refusal::Mark => 3,
-            Refusal::Repeated => 4,
-            Refusal::Ninth => 5,
-            Refusal::NotAbove => 6,
-            Refusal::FrameFull => 7,
-            Refusal::NotFitted => 8,
-            Refusal::Named => 9,
-            Refusal::InForce => 10,
-            Refusal::LinesFull => 11,
-            Refusal::NoSetting => 12,
-            Refusal::TableFull => 13,
-            Refusal::NotInForce => 14,
-            Refusal::Unmanageable => 15,
-            Refusal::ShortBuffer => 16,
-        }
+        self as u8
     }
 
     // The fault of this refusal at a place.
@@ -147,6 +131,7 @@ fn layer_of(number: u8) -> Layer
     }
 }
 
+// The conversions by `From` are written one by one: a derive or a macro writes no `from_gives`, which says what each makes.
 impl From<TextFault> for SheetFault {
     ghost from_gives = { λ x y. y ≡ sheet.Reading x };
 
@@ -187,27 +172,36 @@ impl From<Fault> for JournalFault {
     }
 }
 
-impl SheetFault {
-    // The one record of the fault.
-    pub fn record(self) -> Fault
-        ensures { result ≡ sheet_record self }
-    {
-        match self {
-            SheetFault::Reading(text) => text.fault,
-            SheetFault::Own(fault) => fault,
+// The one record of a text's fault.
+impl From<TextFault> for Fault {
+    ghost from_gives = { λ x y. y ≡ x.fault };
+
+    fn from(fault: TextFault) -> Fault {
+        fault.fault
+    }
+}
+
+// The one record of a sheet's fault.
+impl From<SheetFault> for Fault {
+    ghost from_gives = { λ x y. y ≡ sheet_record x };
+
+    fn from(fault: SheetFault) -> Fault {
+        match fault {
+            SheetFault::Reading(text) => text.into(),
+            SheetFault::Own(own) => own,
         }
     }
 }
 
-impl JournalFault {
-    // The one record of the fault.
-    pub fn record(self) -> Fault
-        ensures { result ≡ journal_record self }
-    {
-        match self {
-            JournalFault::Reading(text) => text.fault,
-            JournalFault::Refused(fault) => fault.record(),
-            JournalFault::Own(fault) => fault,
+// The one record of a journal's fault.
+impl From<JournalFault> for Fault {
+    ghost from_gives = { λ x y. y ≡ journal_record x };
+
+    fn from(fault: JournalFault) -> Fault {
+        match fault {
+            JournalFault::Reading(text) => text.into(),
+            JournalFault::Refused(refused) => refused.into(),
+            JournalFault::Own(own) => own,
         }
     }
 }

@@ -13,7 +13,7 @@ use Rattle.reading.specs.Grammar.{mark_of, item, behind, NewItem, FaultAt, no_nu
 use Rattle.reading.specs.Numbers.{run, digits_of, plate_of, Numeral}
 use Rattle.reading.specs.Reading.{◌>>=◌, numbered, item_number, plate_due, sign_of, signed, sign_due, more_by, more_due, items_from, read_items}
 use Rattle.reading.specs.Tokens.{symbol, byte_at}
-use Rattle.reading.proofs.Items.{none_not_some, stop_plate, on_plate, on_sign}
+use Rattle.reading.proofs.Items.{stop_plate, on_plate, on_sign}
 use Rattle.reading.proofs.Numerals.{numeral_plate, plate_numeral}
 use Rattle.reading.proofs.Steps.{run_digits, stop, go_on}
 
@@ -42,7 +42,7 @@ mark_sign b s h = by (eqb b 43) (eqb b 45) (eqb b 42) refl refl refl h
     by true y z e f g h = let is : Plus ≡ s = cc in eqb-true b 43 e ∙ ap mark_of is
     by false true z e f g h = let is : Minus ≡ s = cc in eqb-true b 45 f ∙ ap mark_of is
     by false false true e f g h = let is : Star ≡ s = cc in eqb-true b 42 g ∙ ap mark_of is
-    by false false false e f g h = absurd (none_not_some s h)
+    by false false false e f g h = cc
 
 -- where no sign stands
 sign_fault : (a : ℕ) (u : List ℕ) → ((s : Sign) (t : List ℕ) → u ≡ mark_of s ∷ t → ⊥) → sign_due a (symbol u) ≡ Err (text_fault_of refusal.Mark a)
@@ -153,9 +153,9 @@ sign_none : (b : ℕ) (s : Sign) (u t : List ℕ) → sign_of b ≡ None → b �
 sign_none b s u t h e = by s (same_first b (mark_of s) u t e)
   where
     by : (s : Sign) → b ≡ mark_of s → ⊥
-    by Plus q = none_not_some Plus (sym h ∙ ap sign_of q)
-    by Minus q = none_not_some Minus (sym h ∙ ap sign_of q)
-    by Star q = none_not_some Star (sym h ∙ ap sign_of q)
+    by Plus q = cc (ap sign_of q)
+    by Minus q = cc (ap sign_of q)
+    by Star q = cc (ap sign_of q)
 
 front_item : (seen : List Item) (text : List ℕ) (p : ℕ) → NewItem seen text p → (t : List ℕ) → behind text ≡ t → Front seen text
 front_item seen text p n [] e = fault refusal.Mark (run text) (no_sign p n (λ s t q. empty_not (mark_of s) t (sym e ∙ q)))
@@ -175,5 +175,5 @@ front seen text few = by (plate_of (digits_of text)) refl
     number p n (inl l) false e = front_item seen text p (record { number = n; room = l; fresh = e }) (behind text) refl
 
     by : (o : Option ℕ) → plate_of (digits_of text) ≡ o → Front seen text
-    by None e = fault refusal.Number 0 (no_number (λ p n. none_not_some p (sym e ∙ numeral_plate (digits_of text) p n)))
+    by None e = fault refusal.Number 0 (no_number (λ p n. cc (numeral_plate (digits_of text) p n)))
     by (Some p) e = number p (plate_numeral (digits_of text) p (run_digits text) e) (cases_lt (length seen) 8) (names seen p) refl

@@ -17,7 +17,7 @@ use Rattle.reading.specs.Reading.{open_due, read_items, read_group}
 use Rattle.reading.specs.Tokens.{symbol, byte_at}
 use Rattle.reading.proofs.Fronts.{Front, fault, last, spaced, front, read_last, read_more, read_fault, place_more, place_here, same_first}
 use Rattle.reading.proofs.Gather.{gather, Apart, items_fit, fit_push, gather_push, apart_front, length_gather, once_apart, apart_once, gather_rises, gather_says}
-use Rattle.reading.proofs.Items.{same_ok, same_err, ok_not_err, length_insert}
+use Rattle.reading.proofs.Items.{length_insert}
 use Rattle.reading.proofs.Numerals.{numeral_digits, run_front, digits_front, behind_front}
 use Rattle.reading.proofs.Steps.{stop, run_long}
 
@@ -240,9 +240,13 @@ right start text fits = record {
 }
   where
     by_group : (g : List Item) → read_group start text ≡ Ok g → Answered start text (read_group start text) → Spells text g
-    by_group g e (good k h q) = subst (Spells text) (same_ok k g (sym q ∙ e)) h
-    by_group g e (bad f h q) = absurd (ok_not_err g f (sym e ∙ q))
+    by_group g e (good k h q) = let same : k ≡ g = cc in subst (Spells text) same h
+    by_group g e (bad f h q) = cc
 
     by_fault : (f : TextFault) → read_group start text ≡ Err f → Answered start text (read_group start text) → Refused start text f
-    by_fault f e (good k h q) = absurd (ok_not_err k f (sym q ∙ e))
-    by_fault f e (bad k h q) = subst (Refused start text) (same_err {A = List Item} k f (sym q ∙ e)) h
+    by_fault f e (good k h q) = cc
+    by_fault f e (bad k h q) = let same : k ≡ f = cc in subst (Refused start text) same h
+
+-- so is an answer that is what reading gives
+pub right_by : (start : ℕ) (text : List ℕ) (r : Result (List Item) TextFault) → r ≡ read_group start text → start < 2 ^ 64 → RightAnswer start text r
+right_by start text r e fits = subst (RightAnswer start text) (sym e) (right start text fits)

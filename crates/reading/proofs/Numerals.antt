@@ -7,7 +7,6 @@ use Rattle.std.proofs.lemmas.List.{take_at, drop_at}
 use Rattle.std.proofs.lemmas.Bool.{and_parts, leb-true, eqb-false}
 use Rattle.reading.specs.Grammar.{behind}
 use Rattle.reading.specs.Numbers.{run, digits_of, value_from, plate_of, Numeral}
-use Rattle.reading.proofs.Items.{none_not_some}
 use Rattle.reading.proofs.Steps.{run_more, run_none}
 use Rattle.reading.proofs.Values.{own, digit, value_grows, plate_is}
 
@@ -28,12 +27,12 @@ numeral_plate ds p h =
 
 -- what is read as a number is that number as one writes it
 pub plate_numeral : (ds : List ℕ) (p : ℕ) → all_ascii_digits ds ≡ true → plate_of ds ≡ Some p → Numeral ds p
-plate_numeral [] p all h = absurd (none_not_some p h)
+plate_numeral [] p all h = cc
 plate_numeral (d ∷ ds) p all h = by (eqb d 48) (leb (value_from 0 (d ∷ ds)) 2097151) refl refl h
   where
     by : (z t : Bool) → eqb d 48 ≡ z → leb (value_from 0 (d ∷ ds)) 2097151 ≡ t → cond z None (cond t (Some (value_from 0 (d ∷ ds))) None) ≡ Some p → Numeral (d ∷ ds) p
-    by true t e f h = absurd (none_not_some p h)
-    by false false e f h = absurd (none_not_some p h)
+    by true t e f h = cc
+    by false false e f h = cc
     by false true e f h =
         let is : value_from 0 (d ∷ ds) ≡ p = cc in
         let ne = eqb-false d 48 e in

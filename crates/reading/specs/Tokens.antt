@@ -12,13 +12,13 @@ byte_at at n = min (at + n) (2 ^ 64 - 1)
 
 -- the token at the front of a text: a number is its longest run of digits, a mark one other byte
 abbrev pub TokenOf : ℕ → List ℕ → Token → Type 0
-TokenOf at text (Number ds p) = (p ≡ at) × (ds.now ≡ digits_of text) × (0 < run text)
+TokenOf at text (Number ds p) = (p ≡ at) × (ds.text.now ≡ digits_of text) × (0 < run text)
 TokenOf at text (Mark m p) = (p ≡ at) × (m.now ≡ take 1 text) × (run text ≡ 0) × (0 < length text)
 TokenOf at text (End p) = (p ≡ at) × (length text ≡ 0)
 
 -- the digits of a token: none unless it is a number
 abbrev pub token_digits : Token → List ℕ
-token_digits (Number ds p) = ds.now
+token_digits (Number ds p) = ds.text.now
 token_digits (Mark m p) = []
 token_digits (End p) = []
 

@@ -1,14 +1,16 @@
 // Reading from left to right: each function reads what is due, or says which fault is there.
-ghost use Rattle.std.specs.Prelude.{◌≡◌, ◌+◌, ◌≤◌, true, length};
-ghost use Rattle.std.specs.Str.{all_ascii_digits};
-ghost use Rattle.groups.specs.Groups.{items_of};
+ghost use Rattle.std.specs.Prelude.{◌≡◌, ◌+◌, ◌<◌, ◌≤◌, true, length, IfSome, IfOk};
+ghost use Rattle.groups.specs.Groups.{items_of, takes};
+ghost use Rattle.groups.specs.Items.{is_plate};
 ghost use Rattle.reading.specs.Examples.{Examples};
 ghost use Rattle.reading.specs.Grammar.{RightAnswer, RightNumber};
 ghost use Rattle.reading.specs.Numbers.{plate_of};
 ghost use Rattle.reading.specs.Reading.{number_due, plate_due, sign_due, end_due, more_due, open_due, read_items, read_group, read_plate, held_by};
 ghost use Rattle.reading.specs.Tokens.{token_digits, token_place, token_symbol};
 
-use super::tokens::{Token, next_token, skip};
+use super::digits::Digits;
+use super::rest::Rest;
+use super::tokens::Token;
 use faults::{Refusal, TextFault};
 use groups::group::Group;
 use groups::items::{Item, Sign};
@@ -18,15 +20,16 @@ use groups::methods::HIGHEST_PLATE;
 const MOST_READ: usize = 8;
 
 // The plate that digits spell: no zero in front, and not above the highest plate.
-fn plate_of(digits: &[u8]) -> Option<u32>
-    requires { all_ascii_digits digits.now ≡ true }
-    ensures { result ≡ plate_of digits.now }
+#[tactic(auto, using(crate::proofs::Values::plate_rules))]
+fn plate_of(digits: Digits) -> Option<u32>
+    ensures value { result ≡ plate_of digits.entry.text.now }
+    ensures plate { IfSome result (λ p. is_plate p ≡ true) }
 {
-    if digits.is_empty() || digits[0] == b'0' {
+    if let [] | [b'0', ..] = digits.text {
         return None;
     }
     let mut value: u32 = 0;
-    for digit in digits {
+    for digit in digits.text {
         value = value * 10 + u32::from(*digit - b'0');
         if value > HIGHEST_PLATE {
             return None;
@@ -37,8 +40,8 @@ fn plate_of(digits: &[u8]) -> Option<u32>
 
 // The number of a plate is due.
 fn number_due(token: &Token) -> Result<u32, TextFault>
-    requires { all_ascii_digits (token_digits token.now) ≡ true }
-    ensures { result ≡ number_due (token_place token.now) (token_digits token.now) }
+    ensures value { result ≡ number_due (token_place token.now) (token_digits token.now) }
+    ensures plate { IfOk result (λ p. is_plate p ≡ true) }
 {
     match plate_of(token.digits()) {
         Some(plate) => Ok(plate),
@@ -48,8 +51,9 @@ fn number_due(token: &Token) -> Result<u32, TextFault>
 
 // The number of an item is due, where there is room for so many items behind those of the group.
 fn plate_due(token: &Token, group: &Group, room: usize) -> Result<u32, TextFault>
-    requires { all_ascii_digits (token_digits token.now) ≡ true }
-    ensures { result ≡ plate_due room (items_of group.now) (token_place token.now) (token_digits token.now) }
+    requires { length (items_of group.now) + room ≤ 8 }
+    ensures value { result ≡ plate_due room (items_of group.now) (token_place token.now) (token_digits token.now) }
+    ensures item { IfOk result (λ p. (0 < room) × (takes (items_of group.now) p ≡ true)) }
 {
     let plate = number_due(token)?;
     if room == 0 {
@@ -84,24 +88,24 @@ fn open_due(token: &Token) -> Result<(), TextFault>
 }
 
 // The end is due.
-fn end_due(text: &[u8], at: usize) -> Result<(), TextFault>
-    ensures { result ≡ end_due at text.now }
+fn end_due(rest: Rest) -> Result<(), TextFault>
+    ensures { result ≡ end_due rest.entry.at rest.entry.text.now }
 {
-    match next_token(text, at) {
+    match rest.token() {
         Token::End { .. } => Ok(()),
         Token::Number { at, .. } | Token::Mark { at, .. } => Err(Refusal::Mark.at_byte(at)),
     }
 }
 
 // A space before one more item is due, or the closing bracket and then the end. Whether one more item is due.
-fn more_due(text: &[u8], at: usize) -> Result<bool, TextFault>
-    ensures { result ≡ more_due at text.now }
+fn more_due(rest: Rest) -> Result<bool, TextFault>
+    ensures { result ≡ more_due rest.entry.at rest.entry.text.now }
 {
-    let token = next_token(text, at);
+    let token = rest.token();
     match token.symbol() {
         Some(' ') => Ok(true),
         Some(')') => {
-            end_due(skip(text, 1), at.saturating_add(1))?;
+            end_due(rest.after(1))?;
             Ok(false)
         }
         _ => Err(Refusal::Mark.at_byte(token.place())),
@@ -109,43 +113,43 @@ fn more_due(text: &[u8], at: usize) -> Result<bool, TextFault>
 }
 
 // Reads items to the closing bracket and the end, behind those of the group, of which there is room for so many.
-fn read_items(mut group: Group, room: usize, text: &[u8], at: usize) -> Result<Group, TextFault>
+#[tactic(auto, using(crate::proofs::Items::item_rules))]
+fn read_items(mut group: Group, room: usize, rest: Rest) -> Result<Group, TextFault>
     requires { length (items_of group) + room ≤ 8 }
-    ensures { held_by result ≡ read_items room (items_of group) at text.now }
+    ensures { held_by result ≡ read_items room (items_of group) rest.entry.at rest.entry.text.now }
 {
-    let number = next_token(text, at);
+    let number = rest.token();
     let plate = plate_due(&number, &group, room)?;
-    let length = number.digits().len();
-    let (text, at) = (skip(text, length), at.saturating_add(length));
-    let sign = sign_due(&next_token(text, at))?;
-    let (text, at) = (skip(text, 1), at.saturating_add(1));
-    let more = more_due(text, at)?;
+    let behind_number = rest.after(number.digits().text.len());
+    let sign = sign_due(&behind_number.token())?;
+    let behind_sign = behind_number.after(1);
+    let more = more_due(behind_sign)?;
     let _ = group.insert(Item { plate, sign });
     if more {
-        read_items(group, room - 1, skip(text, 1), at.saturating_add(1))
+        read_items(group, room - 1, behind_sign.after(1))
     } else {
         Ok(group)
     }
 }
 
-// Reads an opening bracket and what stands behind it, to the end.
-fn bracketed(text: &[u8], at: usize) -> Result<Group, TextFault>
-    ensures value { held_by result ≡ read_group at text.now }
-    ensures right { RightAnswer at text.now (held_by result) }
+// Reads an opening bracket and what stands behind it, to the end. Apart from `read_group`, which is proved from this
+// contract alone: `right` takes a proof by hand, since no tactic makes its records.
+fn whole_group(rest: Rest) -> Result<Group, TextFault>
+    ensures value { held_by result ≡ read_group rest.entry.at rest.entry.text.now }
+    ensures right { RightAnswer rest.entry.at rest.entry.text.now (held_by result) }
 {
-    open_due(&next_token(text, at))?;
-    read_items(Group::new(), MOST_READ, skip(text, 1), at.saturating_add(1))
+    open_due(&rest.token())?;
+    read_items(Group::new(), MOST_READ, rest.after(1))
 }
 
-// Reads a number and the end.
-fn whole_number(text: &[u8], at: usize) -> Result<u32, TextFault>
-    ensures value { result ≡ read_plate at text.now }
-    ensures right { RightNumber at text.now result }
+// Reads a number and the end. Apart from `read_plate` for the same reason.
+fn whole_number(rest: Rest) -> Result<u32, TextFault>
+    ensures value { result ≡ read_plate rest.entry.at rest.entry.text.now }
+    ensures right { RightNumber rest.entry.at rest.entry.text.now result }
 {
-    let number = next_token(text, at);
+    let number = rest.token();
     let plate = number_due(&number)?;
-    let length = number.digits().len();
-    end_due(skip(text, length), at.saturating_add(length))?;
+    end_due(rest.after(number.digits().text.len()))?;
     Ok(plate)
 }
 
@@ -154,7 +158,8 @@ pub fn read_group(text: &[u8], start: usize) -> Result<Group, TextFault>
     ensures value { held_by result ≡ read_group start text.now }
     ensures right { RightAnswer start text.now (held_by result) }
 {
-    bracketed(text, start)
+    let group = Rest { text, at: start };
+    whole_group(group)
 }
 
 // Reads the number of a plate. The text's first byte stands at `start`, from which places count.
@@ -162,10 +167,12 @@ pub fn read_plate(text: &[u8], start: usize) -> Result<u32, TextFault>
     ensures value { result ≡ read_plate start text.now }
     ensures right { RightNumber start text.now result }
 {
-    whole_number(text, start)
+    let number = Rest { text, at: start };
+    whole_number(number)
 }
 
 // Carries the worked examples: no reader that keeps the promise of `read_group` answers one of them otherwise.
+#[tactic(auto, unfolding(crate::specs::Reading::read_items))]
 pub fn examples_stand() -> u8
     ensures { Examples }
 {

@@ -2,7 +2,7 @@
 #![tactic(auto)]
 
 use entries::{answer_group, tell};
-use faults::{Place, TextFault};
+use faults::{Refusal, TextFault};
 use reading::reader::{read_group, read_plate};
 use std::alloc::Global;
 use std::io;
@@ -33,17 +33,17 @@ const GROUPS: [(&str, &str); 22] = [
     ("(5- 6-))", "1 no 3 at 7"),
 ];
 
-// Numbers where the text begins at byte 4, with the plate, or the refusal's number and its byte.
-const NUMBERS: [(&str, Result<u32, (u8, usize)>); 9] = [
+// Numbers where the text begins at byte 4, with the plate, or the refusal and its byte.
+const NUMBERS: [(&str, Result<u32, (Refusal, usize)>); 9] = [
     ("5", Ok(5)),
     ("2097151", Ok(2_097_151)),
-    ("2097152", Err((2, 4))),
-    ("05", Err((2, 4))),
-    ("0", Err((2, 4))),
-    ("", Err((2, 4))),
-    ("x", Err((2, 4))),
-    ("5 ", Err((3, 5))),
-    ("2097151+", Err((3, 11))),
+    ("2097152", Err((Refusal::Number, 4))),
+    ("05", Err((Refusal::Number, 4))),
+    ("0", Err((Refusal::Number, 4))),
+    ("", Err((Refusal::Number, 4))),
+    ("x", Err((Refusal::Number, 4))),
+    ("5 ", Err((Refusal::Mark, 5))),
+    ("2097151+", Err((Refusal::Mark, 11))),
 ];
 
 // The text in which every byte is tried in every position.
@@ -78,31 +78,14 @@ fn count_groups(rt: &HostRuntime) -> io::Result<u32> {
 fn count_numbers(rt: &HostRuntime) -> io::Result<u32> {
     let mut count: u32 = 0;
     for (text, expected) in NUMBERS {
-        if is_number(text.as_bytes(), expected) {
+        let answer = expected.map_err(|(refusal, byte)| refusal.at_byte(byte));
+        if read_plate(text.as_bytes(), 4) == answer {
             count = count.saturating_add(1);
         } else {
             println!(rt; "number {text} is not answered as expected")?;
         }
     }
     Ok(count)
-}
-
-// Whether a number is answered so.
-fn is_number(text: &[u8], expected: Result<u32, (u8, usize)>) -> bool {
-    match (read_plate(text, 4), expected) {
-        (Ok(plate), Ok(wanted)) => plate == wanted,
-        (Err(fault), Err(wanted)) => is_fault(fault, wanted),
-        _ => false,
-    }
-}
-
-// Whether a fault has this number and this byte.
-fn is_fault(fault: TextFault, wanted: (u8, usize)) -> bool {
-    let (number, at) = wanted;
-    match fault.fault.place {
-        Place::Byte(byte) => number == fault.fault.number && at == byte,
-        Place::Nowhere | Place::Plate(_) => false,
-    }
 }
 
 // How many of the texts with one byte replaced are answered as they should be; prints the others.
@@ -112,7 +95,7 @@ fn count_bytes(rt: &HostRuntime) -> io::Result<u32> {
         for byte in 0..=255u8 {
             let mut text = SHORT;
             text[position] = byte;
-            if is_right(&text, fault_of(position, byte)) {
+            if read_group(&text, 0).err() == fault_of(position, byte) {
                 count = count.saturating_add(1);
             } else {
                 println!(rt; "byte {byte} in position {position} is not answered as expected")?;
@@ -127,44 +110,32 @@ fn is_answer(text: &[u8], expected: &[u8]) -> bool {
     let mut buffer = [0; 320];
     let length = match answer_group(text, 1, &mut buffer) {
         Ok(reading) => Some(reading.length),
-        Err(fault) => tell(1, fault.record(), &mut buffer).ok().flatten(),
+        Err(fault) => tell(1, fault.into(), &mut buffer).ok().flatten(),
     };
-    match length {
-        Some(n) => buffer.get(0..n) == Some(expected),
-        None => false,
-    }
-}
-
-// Whether a text is refused with this number at this byte, or read where no fault is expected.
-fn is_right(text: &[u8], expected: Option<(u8, usize)>) -> bool {
-    match (read_group(text, 0), expected) {
-        (Ok(_), None) => true,
-        (Err(fault), Some(wanted)) => is_fault(fault, wanted),
-        _ => false,
-    }
+    length.and_then(|n| buffer.get(..n)) == Some(expected)
 }
 
 // The fault of the short text with a byte in a position, written down from the rules, case by case.
-fn fault_of(position: usize, byte: u8) -> Option<(u8, usize)> {
+fn fault_of(position: usize, byte: u8) -> Option<TextFault> {
     let digit = byte.is_ascii_digit();
-    let sign = byte == b'+' || byte == b'-' || byte == b'*';
+    let sign = matches!(byte, b'+' | b'-' | b'*');
     match position {
         0 if byte == b'(' => None,
-        1 if byte == b'6' => Some((4, 4)),
+        1 if byte == b'6' => Some(Refusal::Repeated.at_byte(4)),
         1 if digit && byte != b'0' => None,
-        1 => Some((2, 1)),
+        1 => Some(Refusal::Number.at_byte(1)),
         2 if sign => None,
-        2 if digit => Some((3, 3)),
+        2 if digit => Some(Refusal::Mark.at_byte(3)),
         3 if byte == b' ' => None,
-        3 if byte == b')' => Some((3, 4)),
-        4 if byte == b'5' => Some((4, 4)),
+        3 if byte == b')' => Some(Refusal::Mark.at_byte(4)),
+        4 if byte == b'5' => Some(Refusal::Repeated.at_byte(4)),
         4 if digit && byte != b'0' => None,
-        4 => Some((2, 4)),
+        4 => Some(Refusal::Number.at_byte(4)),
         5 if sign => None,
-        5 if digit => Some((3, 6)),
+        5 if digit => Some(Refusal::Mark.at_byte(6)),
         6 if byte == b')' => None,
-        6 if byte == b' ' => Some((2, 7)),
-        _ => Some((3, position)),
+        6 if byte == b' ' => Some(Refusal::Number.at_byte(7)),
+        _ => Some(Refusal::Mark.at_byte(position)),
     }
 }
 
@@ -174,7 +145,7 @@ fn long_number(heap: Global) -> io::Result<&'static str> {
     text[0] = b'(';
     text[4001] = b'+';
     text[4002] = b')';
-    if is_right(text.as_slice(), Some((2, 1))) {
+    if read_group(text.as_slice(), 0).err() == Some(Refusal::Number.at_byte(1)) {
         Ok("refused at its first digit")
     } else {
         Ok("answered otherwise")

@@ -1,11 +1,6 @@
 -- What is written of a group spells that group. Assumes nothing.
-use Rattle.std.proofs.Common.{◌≡◌, ℕ, ◌≤◌, Bool, true, false, cond, ltb, List, [], ◌∷◌, ◌++◌, length, drop, is_some, Some, Ok, Err, decimal, Option, Result, sym, refl, ap, ◌∙◌, subst, subst₂, append_assoc, append-nil, arith}
-use Rattle.std.specs.Option.{option_map}
-use Rattle.std.proofs.lemmas.List.{length_push, take_at}
-use Rattle.faults.specs.declared.Fault.{Fault}
-use Rattle.faults.specs.declared.Place.TheVariants.{Nowhere}
-use Rattle.faults.specs.declared.Refusal.TheVariants.{ShortBuffer}
-use Rattle.faults.specs.Faults.{fault_of}
+use Rattle.std.proofs.Common.{◌≡◌, ℕ, ◌≤◌, true, List, [], ◌∷◌, ◌++◌, length, is_some, Ok, decimal, sym, refl, ap, ◌∙◌, subst, append_assoc, append-nil, arith}
+use Rattle.std.proofs.lemmas.List.{length_push}
 use Rattle.groups.specs.declared.items.Item.{Item}
 use Rattle.groups.specs.declared.items.Sign.{Sign}
 use Rattle.groups.specs.Items.{rising, sign_at}
@@ -14,8 +9,7 @@ use Rattle.reading.specs.Grammar.{mark_of, item, Items, none, more, Once, Spells
 use Rattle.reading.specs.Numbers.{Numeral}
 use Rattle.reading.specs.Reading.{read_group}
 use Rattle.reading.proofs.Laws.{spelled_read}
-use Rattle.lines.specs.Texts.{item_text, row_text, group_text, write_answer, write_after}
-use Rattle.writing.specs.Back.{ReadBack, ReadsBack}
+use Rattle.lines.specs.Texts.{item_text, row_text, group_text}
 
 -- a row of items with its last item apart
 record LastApart (text : List ℕ) (is : List Item) : Type 0 where
@@ -87,23 +81,3 @@ spells i is r few =
 pub read_back : (is : List Item) → rising 0 is ≡ true → (start : ℕ) → 1 ≤ length is → length is ≤ 8 → read_group start (group_text is) ≡ Ok is
 read_back [] r start some few = absurd (omega arith)
 read_back (i ∷ is) r start some few = spelled_read start (group_text (i ∷ is)) (i ∷ is) (spells i is r few)
-
--- what a call that wrote a group's text, or refused, leaves
-pub record Wrote (o : Option (List Item)) (before after : List ℕ) (r : Result (Option ℕ) Fault) : Type 0 where
-  pub answer : r ≡ write_answer (option_map group_text o) before
-  pub after_is : after ≡ write_after (option_map group_text o) before
-  pub back : ReadsBack o r after
-
-back_by : (is : List Item) (before : List ℕ) (short : Bool) → ReadBack is → ReadsBack (Some is) (cond short (Err (fault_of ShortBuffer Nowhere)) (Ok (Some (length (group_text is))))) (cond short before (group_text is ++ drop (length (group_text is)) before))
-back_by is before true h = tt
-back_by is before false h = λ start some few. ap (read_group start) (take_at (group_text is) (drop (length (group_text is)) before) (length (group_text is)) refl) ∙ h start some few
-
-pub wrote : (is : List Item) (text before after : List ℕ) (r : Result (Option ℕ) Fault) → text ≡ group_text is → ReadBack is → r ≡ write_answer (Some text) before → after ≡ write_after (Some text) before → Wrote (Some is) before after r
-wrote is text before after r t h a b =
-    let answer : r ≡ write_answer (Some (group_text is)) before = a ∙ ap (λ l. write_answer (Some l) before) t in
-    let after_is : after ≡ write_after (Some (group_text is)) before = b ∙ ap (λ l. write_after (Some l) before) t in
-    record {
-      answer = answer;
-      after_is = after_is;
-      back = subst₂ (ReadsBack (Some is)) (sym answer) (sym after_is) (back_by is before (ltb (length before) 320) h);
-    }

@@ -1,5 +1,5 @@
 -- Numbers and groups fit a line. Assumes nothing.
-use Rattle.std.proofs.Common.{◌≡◌, ℕ, ◌*◌, ◌^◌, ◌<◌, ◌≤◌, true, List, [], ◌∷◌, length, decimal, arith, length-append}
+use Rattle.std.proofs.Common.{◌≡◌, ℕ, ◌*◌, ◌^◌, ◌<◌, ◌≤◌, true, List, [], ◌∷◌, length, decimal, arith, length-append, length-take}
 use Rattle.std.specs.List.{flat_map}
 use Rattle.std.proofs.lemmas.Fmt.{length-decimal-le}
 use Rattle.groups.specs.declared.items.Item.{Item}
@@ -7,6 +7,7 @@ use Rattle.groups.specs.Items.{rising}
 use Rattle.groups.proofs.Rising.{rising_step}
 use Rattle.groups.specs.Items.{mark_of}
 use Rattle.lines.specs.Texts.{item_text, next_text, row_text, group_text}
+use Rattle.lines.proofs.Cuts.{cut_short}
 
 pub number_short : (n : ℕ) → n < 2 ^ 32 → length (decimal n) ≤ 320
 number_short n h = let l = length-decimal-le 10 n (omega arith) (omega arith) (omega arith) in omega arith
@@ -32,3 +33,6 @@ group_bytes (i ∷ is) r few =
 
 pub group_short : (is : List Item) → rising 0 is ≡ true → length is ≤ 32 → length (group_text is) ≤ 320
 group_short is r few = let h = group_bytes is r few in omega arith
+
+-- what a line holds goes by these
+pub ruleset line_rules = (cut_short, number_short, group_short, length-take)

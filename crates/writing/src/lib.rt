@@ -15,6 +15,7 @@ use lines::line::Line;
 use lines::texts::LINE;
 
 // The line of a number.
+#[tactic(auto, using(crate::proofs::Lengths::line_rules))]
 fn number_line(number: u32) -> Line
     ensures { text_of result ≡ decimal number }
 {
@@ -24,6 +25,7 @@ fn number_line(number: u32) -> Line
 }
 
 // The line of a group.
+#[tactic(auto, using(crate::proofs::Lengths::line_rules, crate::proofs::Back::read_back))]
 fn group_line(group: &Group) -> Line
     ensures value { text_of result ≡ group_text (items_of group.now) }
     ensures back { ReadBack (items_of group.now) }
@@ -55,6 +57,7 @@ pub fn write_number(number: Option<u32>, buffer: &mut [u8]) -> Result<Option<usi
 }
 
 // Writes a group, or nothing where there is none.
+#[tactic(auto, using(std::proofs::lemmas::List::take_at))]
 pub fn write_group(group: Option<&Group>, buffer: &mut [u8]) -> Result<Option<usize>, Fault>
     ensures answer { result ≡ write_answer (option_map (λ g. group_text (items_of g.now)) group.entry) buffer.old }
     ensures after { buffer.new ≡ write_after (option_map (λ g. group_text (items_of g.now)) group.entry) buffer.old }
@@ -63,14 +66,5 @@ pub fn write_group(group: Option<&Group>, buffer: &mut [u8]) -> Result<Option<us
     let Some(group) = group else {
         return write_nothing(buffer);
     };
-    write_one(group, buffer)
-}
-
-// Writes one group.
-fn write_one(group: &Group, buffer: &mut [u8]) -> Result<Option<usize>, Fault>
-    ensures answer { result ≡ write_answer (Some (group_text (items_of group.now))) buffer.old }
-    ensures after { buffer.new ≡ write_after (Some (group_text (items_of group.now))) buffer.old }
-    ensures back { ReadsBack (Some (items_of group.now)) result buffer.new }
-{
     group_line(group).write(buffer)
 }

@@ -1,18 +1,15 @@
 use Rattle.std.proofs.Common.{arith}
 use Rattle.placed.specs.Spelling.{spell}
 use Rattle.rows.specs.Rows.{spell_all}
-use Rattle.telling.proofs.Drops.{upto_none, upto_more}
-use Rattle.telling.proofs.shortening.drop_ends.Goals as goal
-
-pub loop-place-init : goal.loop-place-init
-loop-place-init c ps h e w t =
-    upto_none ps (spell_all ps c.args.table.now) (spell ps c.args.line) c.args.group h.climbs w t
+use Rattle.telling.proofs.Drops.{upto_more}
+use Rattle.telling.proofs.OneMore.shorten.Goals as goal
 
 pub loop-place-preserved : goal.loop-place-preserved
 loop-place-preserved c ps h e w t =
+    let more = c.args.self.now in
     let k = c.loop-place.place in
     let inv = c.loop-place.invariant ps h e w t in
-    upto_more ps (spell_all ps c.args.table.now) (spell ps c.args.line) k c.args.group c.loop-place.short c.drop_at-short.result h.climbs inv
+    upto_more ps (spell_all ps more.table.now) (spell ps more.line) k c.args.group c.loop-place.short c.drop_at-short.result h.climbs inv
     (c.drop_at-short.ensures c.loop-place-test.true ps h e inv.shorter.within inv.shorter.told)
 
 pub returns : goal.returns

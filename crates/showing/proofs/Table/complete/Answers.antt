@@ -2,12 +2,12 @@ use Rattle.std.proofs.Common.{◌≡◌, ◌+◌, ◌<◌, length, sym, subst, a
 use Rattle.meaning.specs.Frames.{Frame}
 use Rattle.showing.specs.Showing.{already, plus, minus}
 use Rattle.showing.proofs.Completing.{Upto, upto_already, upto_plus, upto_minus, upto_all}
-use Rattle.showing.proofs.complete.Goals as goal
+use Rattle.showing.proofs.Table.complete.Goals as goal
 
 pub loop-place-preserved : goal.loop-place-preserved
 loop-place-preserved c crew ps lines h e w sound right able free =
     let f : Frame = record { crew = crew; plates = ps; lines = lines } in
-    let table = c.args.table.now in
+    let table = c.args.self.now.groups.now in
     let g = c.args.group in
     let k = c.loop-place.place in
     let r = c.loop-place.whole in
@@ -22,7 +22,7 @@ loop-place-preserved c crew ps lines h e w sound right able free =
 pub returns : goal.returns
 returns c crew ps lines h e w sound right able free =
     let f : Frame = record { crew = crew; plates = ps; lines = lines } in
-    let table = c.args.table.now in
+    let table = c.args.self.now.groups.now in
     let g = c.args.group in
     let r = c.loop-place.whole in
     let so = c.loop-place.invariant crew ps lines h e w sound right able free in

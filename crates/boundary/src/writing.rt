@@ -1,6 +1,6 @@
 // Writing groups to what C passes.
 use frames::methods::MOST_LEVERS;
-use placed::Placed;
+use placed::{End, Placed};
 
 // The bytes of one group.
 const GROUP_BYTES: usize = 8;
@@ -29,7 +29,7 @@ fn write_number(number: u32, out: &mut [u8], at: usize) {
 fn upper_ends(group: Placed) -> u32 {
     let mut ends = 0;
     for place in 0..MOST_LEVERS {
-        if group.has_upper(place) {
+        if group.has_end(place, End::Upper) {
             ends |= 1 << place;
         }
     }
@@ -40,7 +40,7 @@ fn upper_ends(group: Placed) -> u32 {
 fn lower_ends(group: Placed) -> u32 {
     let mut ends = 0;
     for place in 0..MOST_LEVERS {
-        if group.has_lower(place) {
+        if group.has_end(place, End::Lower) {
             ends |= 1 << place;
         }
     }

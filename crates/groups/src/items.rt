@@ -3,7 +3,7 @@ ghost use Rattle.std.specs.Prelude.{◌≡◌};
 ghost use Rattle.groups.specs.Items.{mark_of};
 
 // What an item says of its lever: + normal or between, - reversed or between, * between.
-#[derive(Clone, Copy)]
+#[derive(Clone, Copy, PartialEq, Eq, PartialOrd, Ord)]
 pub enum Sign {
     Plus,
     Minus,
@@ -11,7 +11,7 @@ pub enum Sign {
 }
 
 // A plate with a sign.
-#[derive(Clone, Copy)]
+#[derive(Clone, Copy, PartialEq, Eq)]
 pub struct Item {
     pub plate: u32,
     pub sign: Sign,

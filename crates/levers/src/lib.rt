@@ -4,8 +4,6 @@
 ghost use Rattle.std.specs.Prelude.{◌≡◌, ℕ, ◌≤◌, true, false, not, ◌&&◌, ◌||◌, Decides, ◌==◌, nat_lt};
 ghost use Rattle.levers.specs.Sets.{has, tally, Lowest};
 
-mod digits;
-
 // A set of places from 0 to 31: digit k of the bits stands for place k.
 #[derive(Clone, Copy, PartialEq, Eq)]
 pub struct Levers {
@@ -21,91 +19,114 @@ impl Levers {
     }
 
     // Whether a place is in the set. No place from 32 on is in any.
+    #[tactic(auto, using(crate::proofs::Members::in_digit, crate::proofs::Members::in_no))]
     pub fn has(self, place: usize) -> bool
         ensures { result ≡ has self place }
     {
-        digits::digit(self.bits, place)
+        place < 32 && (self.bits >> place) & 1 == 1
     }
 
     // The set with a place below 32 taken in.
+    #[tactic(auto, using(crate::proofs::Members::in_with))]
     pub fn with(self, place: usize) -> Levers
         ensures { (k : ℕ) → has result k ≡ (has self k || (k == place && nat_lt place 32)) }
     {
-        Levers {
-            bits: digits::with_digit(self.bits, place),
+        if place < 32 {
+            Levers {
+                bits: self.bits | 1 << place,
+            }
+        } else {
+            self
         }
     }
 
     // The set with a place taken out.
+    #[tactic(auto, using(crate::proofs::Members::in_without, crate::proofs::Members::out_of_none))]
     pub fn without(self, place: usize) -> Levers
         ensures { (k : ℕ) → has result k ≡ (has self k && not (k == place)) }
     {
-        Levers {
-            bits: digits::without_digit(self.bits, place),
+        if place < 32 {
+            Levers {
+                bits: self.bits & !(1 << place),
+            }
+        } else {
+            self
         }
     }
 
     // What is in one of two sets or in both.
+    #[tactic(auto, using(crate::proofs::Members::in_either))]
     pub fn union(self, other: Levers) -> Levers
         ensures { (k : ℕ) → has result k ≡ (has self k || has other k) }
     {
         Levers {
-            bits: digits::either(self.bits, other.bits),
+            bits: self.bits | other.bits,
         }
     }
 
     // What is in both of two sets.
+    #[tactic(auto, using(crate::proofs::Members::in_both))]
     pub fn intersection(self, other: Levers) -> Levers
         ensures { (k : ℕ) → has result k ≡ (has self k && has other k) }
     {
         Levers {
-            bits: digits::both(self.bits, other.bits),
+            bits: self.bits & other.bits,
         }
     }
 
     // What is in this set and not in the other.
+    #[tactic(auto, using(crate::proofs::Members::in_only_first))]
     pub fn minus(self, other: Levers) -> Levers
         ensures { (k : ℕ) → has result k ≡ (has self k && not (has other k)) }
     {
         Levers {
-            bits: digits::only_first(self.bits, other.bits),
+            bits: self.bits & !other.bits,
         }
     }
 
     // What is in just one of two sets.
+    #[tactic(auto, using(crate::proofs::Members::in_unlike))]
     pub fn difference(self, other: Levers) -> Levers
         ensures { (k : ℕ) → has result k ≡ ((has self k && not (has other k)) || (has other k && not (has self k))) }
     {
         Levers {
-            bits: digits::unlike(self.bits, other.bits),
+            bits: self.bits ^ other.bits,
         }
     }
 
     // Whether the set is empty.
+    #[tactic(auto, using(crate::proofs::Members::all_zero))]
     pub fn is_none(self) -> bool
         ensures { Decides result ((k : ℕ) → has self k ≡ false) }
     {
-        digits::all_zero(self.bits)
+        self.bits == 0
     }
 
     // How many places are in the set, counted over any n places that have them all.
+    #[tactic(auto, using(crate::proofs::Counts::places_counted))]
     pub fn count(self) -> u32
         ensures { (n : ℕ) → ((k : ℕ) → n ≤ k → has self k ≡ false) → result ≡ tally (has self) 0 n }
     {
-        digits::count(self.bits)
+        self.bits.count_ones()
     }
 
     // The lowest place in the set, if there is one.
+    #[tactic(auto, using(crate::proofs::Counts::lowest_digit, crate::proofs::Counts::below_lowest))]
     pub fn first(self) -> Option<usize>
         ensures { Lowest (has self) result }
     {
-        digits::lowest(self.bits)
+        if self.bits == 0 {
+            None
+        } else {
+            Some(self.bits.trailing_zeros() as usize)
+        }
     }
 
     // Whether each place of this set is in the other.
+    #[tactic(auto, using(crate::proofs::Members::is_inside))]
     pub fn within(self, other: Levers) -> bool
         ensures { Decides result ((k : ℕ) → has self k ≡ true → has other k ≡ true) }
     {
-        digits::inside(self.bits, other.bits)
+        self.bits & other.bits == self.bits
     }
 }

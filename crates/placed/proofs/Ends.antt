@@ -1,15 +1,14 @@
 -- Signs read off the two ends of a lever. Assumes nothing.
-use Rattle.std.proofs.Common.{◌≡◌, ℕ, ◌^◌, ◌<◌, Bool, true, false, cond, not, ◌&&◌, ◌||◌, eqb, ltb, Some, None, Decides, Option, sym, refl, ap, ◌∙◌, arith}
+use Rattle.std.proofs.Common.{◌≡◌, ℕ, ◌^◌, ◌<◌, Bool, true, false, cond, not, ◌&&◌, eqb, ltb, Some, None, Decides, Option, sym, ap, ◌∙◌, arith}
 use Rattle.std.proofs.lemmas.Bool.{and_parts, and_from, eq-eqb, eqb-true}
 use Rattle.std.proofs.lemmas.Bool.Decides.{nat_tests}
 use Rattle.groups.specs.declared.items.Sign.{Sign}
-use Rattle.groups.specs.declared.items.Sign.TheVariants.{Star}
-use Rattle.groups.specs.Items.{sits, joint}
+use Rattle.groups.specs.Items.{sits}
 use Rattle.levers.specs.declared.Levers.{Levers}
 use Rattle.levers.specs.Sets.{has}
 use Rattle.levers.proofs.Members.{same_sets, none_high}
 use Rattle.placed.specs.declared.Placed.{Placed}
-use Rattle.placed.specs.Signs.{sign_of, sign_on, without_upper, without_lower, has_upper, has_lower, opposed_signs}
+use Rattle.placed.specs.Signs.{sign_of, sign_on}
 
 -- what a group without a lever says of it sits on all
 abbrev pub sits_if : Option Sign → Option Sign → Bool
@@ -26,41 +25,9 @@ sits_up u d v e s a = grind arith
 pub sits_down : (u d v e : Bool) → sits_if (sign_of u d) (sign_of v e) ≡ true → d ≡ true → e ≡ true
 sits_down u d v e s a = grind arith
 
--- the ends of both together, with those of one lever, of which t tells, taken out
-pub joint_ends : (u d v e t : Bool) → sign_of ((u || v) && not t) ((d || e) && not t) ≡ cond t None (joint (sign_of u d) (sign_of v e))
-joint_ends u d v e t = grind arith
-
--- + against -, read off the ends
-pub opposing_ends : (u d v e : Bool) → (((u && not d) && (e && not v)) || ((d && not u) && (v && not e))) ≡ opposed_signs (sign_of u d) (sign_of v e)
-opposing_ends u d v e = grind arith
-
--- the ends with the upper one of one lever, of which t tells, taken away
-pub upper_taken : (u d t : Bool) → sign_of (u && not t) d ≡ cond t (without_upper (sign_of u d)) (sign_of u d)
-upper_taken u d t = grind arith
-
--- the ends with the lower one of one lever, of which t tells, taken away
-pub lower_taken : (u d t : Bool) → sign_of u (d && not t) ≡ cond t (without_lower (sign_of u d)) (sign_of u d)
-lower_taken u d t = grind arith
-
--- each end is read back off the sign
-pub upper_end : (u d : Bool) → has_upper (sign_of u d) ≡ u
-upper_end u d = grind arith
-
-pub lower_end : (u d : Bool) → has_lower (sign_of u d) ≡ d
-lower_end u d = grind arith
-
--- both ends are *
-pub star_ends : (u d : Bool) → Decides (u && d) (sign_of u d ≡ Some Star)
-star_ends u d = ((λ e. grind arith), (λ e. grind arith))
-
 -- what stands at both ends
 pub same_ends : (u d v e : Bool) → sign_of u d ≡ sign_of v e → (u ≡ v) × (d ≡ e)
 same_ends u d v e s = (grind arith, grind arith)
-
--- the ends with those of one lever, of which t tells, set anew
-pub ends_set : (t a b u d : Bool) → sign_of (cond t a u) (cond t b d) ≡ cond t (sign_of a b) (sign_of u d)
-ends_set true a b u d = refl
-ends_set false a b u d = refl
 
 -- groups that give each place the same sign are the same
 pub same_groups : (g h : Placed) → ((k : ℕ) → sign_on g k ≡ sign_on h k) → g ≡ h

@@ -1,7 +1,7 @@
 -- Which of two groups comes first in a table, read off their signs. Assumes nothing.
 use Rattle.std.proofs.Common.{◌≡◌, ℕ, zero, suc, ◌+◌, ◌<◌, ◌≤◌, Bool, true, false, cond, not, ◌&&◌, ◌||◌, List, [], ◌∷◌, ◌++◌, length, is_some, Some, None, Option, Ordering, Less, Equal, Greater, sym, refl, ap, ◌∙◌, ⊎_elim, arith}
 use Rattle.std.specs.List.{range_with_len}
-use Rattle.std.specs.Ordering.{is_lt}
+use Rattle.std.specs.Ordering.{MatchOrdering, is_lt}
 use Rattle.std.proofs.lemmas.List.FromFn.{length-range_with_len}
 use Rattle.std.proofs.lemmas.Bool.{and_from, or_left, or_right, lt-ltb, eq-eqb, cases_lt, cases_Bool}
 use Rattle.std.proofs.lemmas.Bool.Decides.{nat_tests}
@@ -72,10 +72,6 @@ rank_last Plus = omega arith
 rank_last Minus = omega arith
 rank_last Star = omega arith
 
--- signs of one rank are the same
-pub ranks_same : (o t : Option Sign) → rank_if o ≡ rank_if t → o ≡ t
-ranks_same o t e = grind arith
-
 -- one more place at which both have the same sign
 step_same : (o : Option Sign) (p : ℕ) (xs ys : List Item) → (length xs ≡ length ys → earlier xs ys ≡ true) → length (item_if p o ++ xs) ≡ length (item_if p o ++ ys) → earlier (item_if p o ++ xs) (item_if p o ++ ys) ≡ true
 step_same None p xs ys f e = f e
@@ -114,14 +110,15 @@ earlier_ups ps g h p r v w s d e =
     (λ l. let a = ap rank_if (v p l) in let b = ap rank_if (w p l) in absurd (omega arith))
     (cases_lt p (length ps))
 
-pub earlier_first : (ps : List ℕ) (g h : Placed) (p : ℕ) → climbing 0 ps ≡ true → Within (length ps) g → Within (length ps) h → ((k : ℕ) → k < p → sign_on g k ≡ sign_on h k) → rank_if (sign_on g p) < rank_if (sign_on h p) → length (spell ps g) ≡ length (spell ps h) → earlier (spell ps g) (spell ps h) ≡ true
-earlier_first ps g h p r = earlier_ups ps g h p (ups_climbing 0 ps r)
+-- which of two signs comes first
+abbrev Ranked : Placed → Placed → ℕ → Ordering → Type 0
+Ranked g h p o = MatchOrdering o (rank_if (sign_on g p) < rank_if (sign_on h p)) (sign_on g p ≡ sign_on h p) (rank_if (sign_on h p) < rank_if (sign_on g p))
 
--- where it does not have the lower rank there, the other does
-pub other_first : (ps : List ℕ) (g h : Placed) (p : ℕ) → climbing 0 ps ≡ true → Within (length ps) g → Within (length ps) h → (sign_on g p ≡ sign_on h p → ⊥) → ((k : ℕ) → k < p → sign_on g k ≡ sign_on h k) → rank_if (sign_on h p) ≤ rank_if (sign_on g p) → length (spell ps g) ≡ length (spell ps h) → earlier (spell ps h) (spell ps g) ≡ true
-other_first ps g h p r v w ne s d e =
-    let other : rank_if (sign_on h p) ≡ rank_if (sign_on g p) → ⊥ = (λ q. ne (sym (ranks_same (sign_on h p) (sign_on g p) q))) in
-    earlier_first ps h g p r w v (λ k m. sym (s k m)) (omega arith) (sym e)
+-- so the signs at that place say which comes first
+pub signs_over : (ps : List ℕ) (g h : Placed) (p : ℕ) (o : Ordering) → climbing 0 ps ≡ true → Within (length ps) g → Within (length ps) h → (sign_on g p ≡ sign_on h p → ⊥) → ((k : ℕ) → k < p → sign_on g k ≡ sign_on h k) → Ranked g h p o → length (spell ps g) ≡ length (spell ps h) → MatchOrdering o (earlier (spell ps g) (spell ps h) ≡ true) (g ≡ h) (earlier (spell ps h) (spell ps g) ≡ true)
+signs_over ps g h p Less r v w ne s d e = earlier_ups ps g h p (ups_climbing 0 ps r) v w s d e
+signs_over ps g h p Equal r v w ne s d e = absurd (ne d)
+signs_over ps g h p Greater r v w ne s d e = earlier_ups ps h g p (ups_climbing 0 ps r) w v (λ k m. sym (s k m)) d (sym e)
 
 -- the same of the items of their own
 first_own : (g h : Placed) (p : ℕ) → ((k : ℕ) → k < p → sign_on g k ≡ sign_on h k) → rank_if (sign_on g p) < rank_if (sign_on h p) → length (own_items g) ≡ length (own_items h) → before (own_items g) (own_items h) ≡ true
@@ -135,13 +132,10 @@ first_own g h p s d e =
     let f = earlier_ups (range_with_len 1 n) g h p (ups_range 0 1 n (omega arith)) (λ k l. v k (omega arith)) (λ k l. w k (omega arith)) s d (sym (ap length a) ∙ e ∙ ap length b) in
     or_right _ _ (and_from _ _ (eq-eqb _ _ e) ((λ i. earlier (a i) (b i)) ∙ f))
 
-pub own_first : (g h : Placed) (p : ℕ) → ((k : ℕ) → k < p → sign_on g k ≡ sign_on h k) → rank_if (sign_on g p) < rank_if (sign_on h p) → length (own_items g) ≡ length (own_items h) → Less ≡ order g h
-own_first g h p s d e = answers_less g h (first_own g h p s d e)
-
-pub own_other : (g h : Placed) (p : ℕ) → (sign_on g p ≡ sign_on h p → ⊥) → ((k : ℕ) → k < p → sign_on g k ≡ sign_on h k) → rank_if (sign_on h p) ≤ rank_if (sign_on g p) → length (own_items g) ≡ length (own_items h) → Greater ≡ order g h
-own_other g h p ne s d e =
-    let other : rank_if (sign_on h p) ≡ rank_if (sign_on g p) → ⊥ = (λ q. ne (sym (ranks_same (sign_on h p) (sign_on g p) q))) in
-    answers_greater g h (first_own h g p (λ k m. sym (s k m)) (omega arith) (sym e))
+pub signs_own : (g h : Placed) (p : ℕ) (o : Ordering) → (sign_on g p ≡ sign_on h p → ⊥) → ((k : ℕ) → k < p → sign_on g k ≡ sign_on h k) → Ranked g h p o → length (own_items g) ≡ length (own_items h) → o ≡ order g h
+signs_own g h p Less ne s d e = answers_less g h (first_own g h p s d e)
+signs_own g h p Equal ne s d e = absurd (ne d)
+signs_own g h p Greater ne s d e = answers_greater g h (first_own h g p (λ k m. sym (s k m)) d (sym e))
 
 -- what `cmp` answers, as a test: it says less just where the one comes before the other in a table
 pub ordered_before : (ps : List ℕ) (g h : Placed) (o : Ordering) → climbing 0 ps ≡ true → Within (length ps) g → Within (length ps) h → OrdersOver g h o → is_lt o ≡ before (spell ps g) (spell ps h)

@@ -1,7 +1,7 @@
 -- The table's order as a function of two groups is the order over any frame that has their levers. Assumes nothing.
 use Rattle.std.proofs.Common.{◌≡◌, ℕ, zero, suc, ◌+◌, ◌^◌, ◌<◌, ◌≤◌, Bool, true, false, cond, ◌&&◌, ◌||◌, eqb, nat_lt, List, [], ◌∷◌, ◌++◌, length, Some, None, Option, Ordering, Less, Equal, Greater, sym, refl, ap, subst, ◌∙◌, pow-suc, arith}
 use Rattle.std.proofs.lemmas.Bool.Decides.{nat_tests}
-use Rattle.std.proofs.lemmas.Bool.{false≢true, or_left, lt-ltb}
+use Rattle.std.proofs.lemmas.Bool.{false≢true}
 use Rattle.std.proofs.lemmas.List.FromFn.{length-range_with_len}
 use Rattle.std.specs.List.{range_with_len}
 use Rattle.std.specs.Ordering.{MatchOrdering, ordering_then}
@@ -11,7 +11,7 @@ use Rattle.groups.specs.declared.items.Sign.{Sign}
 use Rattle.groups.specs.Rises.{climbing, item_if}
 use Rattle.groups.proofs.Climbing.{climbing_step}
 use Rattle.levers.specs.Sets.{has}
-use Rattle.levers.proofs.Binary.{high_digit}
+use Rattle.std.proofs.lemmas.Nat.Bits.{bit_at_above}
 use Rattle.meaning.specs.Tables.{earlier, before}
 use Rattle.meaning.proofs.Order.{order_is_strict}
 use Rattle.placed.specs.declared.Placed.{Placed}
@@ -28,8 +28,8 @@ size_pow (suc n) = let h = size_pow n in omega (arith, pow-suc 2 n)
 
 pub own_within : (g : Placed) → Within (g.up.bits + g.down.bits) g
 own_within g k l =
-    let u : has g.up k ≡ false = ap (λ d. eqb d 1) (high_digit g.up.bits g.up.bits k (size_pow g.up.bits) (omega arith)) in
-    let d : has g.down k ≡ false = ap (λ d. eqb d 1) (high_digit g.down.bits g.down.bits k (size_pow g.down.bits) (omega arith)) in
+    let u : has g.up k ≡ false = ap (λ d. eqb d 1) (bit_at_above g.up.bits g.up.bits k (size_pow g.up.bits) (omega arith)) in
+    let d : has g.down k ≡ false = ap (λ d. eqb d 1) (bit_at_above g.down.bits g.down.bits k (size_pow g.down.bits) (omega arith)) in
     λ i. sign_of (u i) (d i)
 
 -- with no sign from a place on, nothing is spelled
@@ -167,18 +167,9 @@ answers_greater g h b =
 pub answers_equal : (g h : Placed) → g ≡ h → Equal ≡ order g h
 answers_equal g h e = sym (ap (λ x. order x h) e ∙ tied_itself order_total h)
 
-fewer : (g h : List Item) → length g < length h → before g h ≡ true
-fewer g h l = or_left _ _ (lt-ltb (length g) (length h) l)
-
 -- the number of its own items, by that over any frame
 pub own_count : (g : Placed) (n : ℕ) → CountsOver g n → n ≡ length (own_items g)
 unfolding own_items
 own_count g n c =
     let m = g.up.bits + g.down.bits in
     c (range_with_len 1 m) (λ k l. own_within g k (let e = length-range_with_len 1 m in omega arith))
-
-pub fewer_less : (g h : Placed) (n m : ℕ) → CountsOver g n → CountsOver h m → n < m → Less ≡ order g h
-fewer_less g h n m c d l = let a = own_count g n c in let b = own_count h m d in answers_less g h (fewer (own_items g) (own_items h) (omega arith))
-
-pub fewer_greater : (g h : Placed) (n m : ℕ) → CountsOver g n → CountsOver h m → m < n → Greater ≡ order g h
-fewer_greater g h n m c d l = let a = own_count g n c in let b = own_count h m d in answers_greater g h (fewer (own_items h) (own_items g) (omega arith))

@@ -1,6 +1,6 @@
 -- What the items that a group spells say of each plate. Assumes nothing.
-use Rattle.std.proofs.Common.{◌≡◌, ℕ, zero, suc, ◌+◌, ◌<◌, Bool, true, cond, ◌&&◌, eqb, List, [], ◌∷◌, ◌++◌, length, get_or, Some, None, Decides, Option, sym, refl, ap, ◌∙◌, ⊎_elim, arith}
-use Rattle.std.proofs.lemmas.Bool.{and_parts, and_from, eq-eqb, ne_eqb, cond-true, cond-false, cases_lt}
+use Rattle.std.proofs.Common.{◌≡◌, ℕ, zero, suc, ◌+◌, ◌<◌, Bool, true, false, cond, ◌&&◌, eqb, List, [], ◌∷◌, ◌++◌, length, get_or, Some, None, Decides, Option, sym, refl, ap, ◌∙◌, ⊎_elim, arith}
+use Rattle.std.proofs.lemmas.Bool.{and_parts, and_from, eq-eqb, ne_eqb, cond-true, cond-false, cases_lt, both_ways, cases_Bool}
 use Rattle.groups.specs.declared.items.Item.{Item}
 use Rattle.groups.specs.declared.items.Sign.{Sign}
 use Rattle.groups.specs.declared.items.Sign.TheVariants.{Plus, Minus}
@@ -13,7 +13,7 @@ use Rattle.placed.specs.Signs.{sign_on, Within}
 use Rattle.placed.specs.Spelling.{spell_from, spell}
 use Rattle.groups.proofs.Single.{item_rises, item_here, item_other}
 use Rattle.groups.proofs.Climbing.{climbing_step, climbing_above, place_cases}
-use Rattle.placed.proofs.Ends.{sits_if, ends_sit, sits_up, sits_down, same_groups}
+use Rattle.placed.proofs.Ends.{sits_if, ends_sit, sits_up, sits_down, same_groups, equal_groups}
 
 item_covers : (o : Option Sign) (p : ℕ) (xs h : List Item) → covers (item_if p o ++ xs) h ≡ (sits_if o (sign_at h p) && covers xs h)
 item_covers None p xs h = refl
@@ -103,30 +103,44 @@ covers_ends ps g h r w = (
         (λ l. ap (λ o. sits_if o (sign_on h k)) (w k l))
         (cases_lt k (length ps))
 
--- the sign of the plate at a place is that of the place
-pub opposed_over : (ps : List ℕ) (a b : Placed) (i : ℕ) (r : Bool) → climbing 0 ps ≡ true → i < length ps → Decides r ((sign_on a i ≡ Some Plus) × (sign_on b i ≡ Some Minus)) → Decides r ((sign_at (spell ps a) (get_or ps i 0) ≡ Some Plus) × (sign_at (spell ps b) (get_or ps i 0) ≡ Some Minus))
-opposed_over ps a b i r c l d =
-    let p = spelled_sign ps a i c l in
-    let m = spelled_sign ps b i c l in
-    ((λ t. (p ∙ (d.0 t).0, m ∙ (d.0 t).1)), (λ s. d.1 (sym p ∙ s.0, sym m ∙ s.1)))
+not_covers : (ps : List ℕ) (g h : Placed) → (covers (spell ps g) (spell ps h) ≡ true → ⊥) → covers (spell ps g) (spell ps h) ≡ false
+not_covers ps g h n = ⊎_elim (λ t. absurd (n t)) (λ t. t) (cases_Bool (covers (spell ps g) (spell ps h)))
+
+-- each end of the one is an end of the other
+pub covers_all : (ps : List ℕ) (g h : Placed) → climbing 0 ps ≡ true → Within (length ps) g → ((k : ℕ) → has g.up k ≡ true → has h.up k ≡ true) → ((k : ℕ) → has g.down k ≡ true → has h.down k ≡ true) → covers (spell ps g) (spell ps h) ≡ true
+covers_all ps g h r w u d = (covers_ends ps g h r w).1 (u, d)
+
+-- some upper end is not, or some lower end
+pub covers_not_up : (ps : List ℕ) (g h : Placed) (u : Bool) → climbing 0 ps ≡ true → Within (length ps) g → Decides u ((k : ℕ) → has g.up k ≡ true → has h.up k ≡ true) → u ≡ false → covers (spell ps g) (spell ps h) ≡ false
+covers_not_up ps g h u r w a e = not_covers ps g h (λ t. both_ways u e (a.1 ((covers_ends ps g h r w).0 t).0))
+
+pub covers_not_down : (ps : List ℕ) (g h : Placed) (d : Bool) → climbing 0 ps ≡ true → Within (length ps) g → Decides d ((k : ℕ) → has g.down k ≡ true → has h.down k ≡ true) → d ≡ false → covers (spell ps g) (spell ps h) ≡ false
+covers_not_down ps g h d r w a e = not_covers ps g h (λ t. both_ways d e (a.1 ((covers_ends ps g h r w).0 t).1))
+
+-- what `==` says
+pub same_told : (ps : List ℕ) (g h : Placed) (r : Bool) → r ≡ (eqb g.up.bits h.up.bits && eqb g.down.bits h.down.bits) → climbing 0 ps ≡ true → Within (length ps) g → Within (length ps) h → Decides r (spell ps g ≡ spell ps h)
+same_told ps g h r e c v w =
+    let same = equal_groups r g h e in
+    ((λ t. ap (spell ps) (same.0 t)), (λ t. same.1 (same_spelled ps g h c v w t)))
+
+-- what is joined has no sign at the place, and elsewhere the two signs together
+pub joined_dropped : (ps : List ℕ) (a b c : Placed) (i : ℕ) → climbing 0 ps ≡ true → i < length ps → ((k : ℕ) → sign_on c k ≡ cond (eqb k i) None (joint (sign_on a k) (sign_on b k))) → sign_at (spell ps c) (get_or ps i 0) ≡ None
+joined_dropped ps a b c i r l s = spelled_sign ps c i r l ∙ s i ∙ cond-true _ _ _ (eq-eqb i i refl)
+
+pub joined_elsewhere : (ps : List ℕ) (a b c : Placed) (i q : ℕ) → climbing 0 ps ≡ true → i < length ps → ((k : ℕ) → sign_on c k ≡ cond (eqb k i) None (joint (sign_on a k) (sign_on b k))) → (q ≡ get_or ps i 0 → ⊥) → sign_at (spell ps c) q ≡ joint (sign_at (spell ps a) q) (sign_at (spell ps b) q)
+joined_elsewhere ps a b c i q r l s ne =
+    ⊎_elim
+    (λ f.
+    ap (sign_at (spell ps c)) (sym f.2)
+    ∙ spelled_sign ps c f.0 r f.1
+    ∙ s f.0
+    ∙ cond-false _ _ _ (ne_eqb f.0 i (λ e. ne (sym f.2 ∙ ap (λ n. get_or ps n 0) e)))
+    ∙ (λ z. joint (sym (spelled_sign ps a f.0 r f.1) z) (sym (spelled_sign ps b f.0 r f.1) z))
+    ∙ ap (λ n. joint (sign_at (spell ps a) n) (sign_at (spell ps b) n)) f.2)
+    (λ n. spelled_none ps c q n ∙ (λ z. joint (sym (spelled_none ps a q n) z) (sym (spelled_none ps b q n) z)))
+    (place_cases ps q)
 
 -- the combination on the plate at a place
 pub joined_over : (ps : List ℕ) (a b c : Placed) (i : ℕ) → climbing 0 ps ≡ true → i < length ps → ((k : ℕ) → sign_on c k ≡ cond (eqb k i) None (joint (sign_on a k) (sign_on b k))) → sign_at (spell ps a) (get_or ps i 0) ≡ Some Plus → sign_at (spell ps b) (get_or ps i 0) ≡ Some Minus → Combination (get_or ps i 0) (spell ps a) (spell ps b) (spell ps c)
 joined_over ps a b c i r l s plus minus =
-    record {
-      plus = plus;
-      minus = minus;
-      spelled = spelled_rises ps c r;
-      dropped = spelled_sign ps c i r l ∙ s i ∙ cond-true _ _ _ (eq-eqb i i refl);
-      others = λ q ne.
-          ⊎_elim
-          (λ f.
-          ap (sign_at (spell ps c)) (sym f.2)
-          ∙ spelled_sign ps c f.0 r f.1
-          ∙ s f.0
-          ∙ cond-false _ _ _ (ne_eqb f.0 i (λ e. ne (sym f.2 ∙ ap (λ n. get_or ps n 0) e)))
-          ∙ (λ z. joint (sym (spelled_sign ps a f.0 r f.1) z) (sym (spelled_sign ps b f.0 r f.1) z))
-          ∙ ap (λ n. joint (sign_at (spell ps a) n) (sign_at (spell ps b) n)) f.2)
-          (λ n. spelled_none ps c q n ∙ (λ z. joint (sym (spelled_none ps a q n) z) (sym (spelled_none ps b q n) z)))
-          (place_cases ps q);
-    }
+    record { plus = plus; minus = minus; spelled = spelled_rises ps c r; dropped = joined_dropped ps a b c i r l s; others = λ q ne. joined_elsewhere ps a b c i q r l s ne }

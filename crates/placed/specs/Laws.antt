@@ -4,7 +4,7 @@ use Rattle.std.specs.declared.cmp.Ordering.{Ordering}
 use Rattle.std.specs.Option.{option_map}
 use Rattle.std.specs.Ordering.{MatchOrdering}
 use Rattle.groups.specs.declared.items.Sign.TheVariants.{Plus, Minus}
-use Rattle.groups.specs.Items.{sign_at, covers, Combination, CombinesTo}
+use Rattle.groups.specs.Items.{sign_at, covers, CombinesTo}
 use Rattle.meaning.specs.Tables.{earlier, before}
 use Rattle.placed.specs.declared.Placed.{Placed}
 use Rattle.groups.specs.Rises.{climbing}
@@ -26,10 +26,6 @@ CombinesOver a b k r = (ps : List ℕ) → climbing 0 ps ≡ true → k < length
 -- r tells, over any frame with a lever at place k, whether a has + on that lever's plate and b has -
 abbrev pub OpposesOver : Placed → Placed → ℕ → Bool → Type 0
 OpposesOver a b k r = (ps : List ℕ) → climbing 0 ps ≡ true → k < length ps → Decides r ((sign_at (spell ps a) (slice_index ps k) ≡ Some Plus) × (sign_at (spell ps b) (slice_index ps k) ≡ Some Minus))
-
--- c spells, over any frame with a lever at place k on which a has + and b has -, their combination on that lever's plate
-abbrev pub JoinsOver : Placed → Placed → ℕ → Placed → Type 0
-JoinsOver a b k c = (ps : List ℕ) → climbing 0 ps ≡ true → k < length ps → sign_at (spell ps a) (slice_index ps k) ≡ Some Plus → sign_at (spell ps b) (slice_index ps k) ≡ Some Minus → Combination (slice_index ps k) (spell ps a) (spell ps b) (spell ps c)
 
 -- n is, over any frame that has the levers of g, the number of items that g spells
 abbrev pub CountsOver : Placed → ℕ → Type 0

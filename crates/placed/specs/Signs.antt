@@ -5,6 +5,8 @@ use Rattle.groups.specs.declared.items.Sign.TheVariants.{Plus, Minus, Star}
 use Rattle.levers.specs.Sets.{has}
 use Rattle.meaning.specs.Tables.{rank_of}
 use Rattle.placed.specs.declared.Placed.{Placed}
+use Rattle.placed.specs.declared.End.{End}
+use Rattle.placed.specs.declared.End.TheVariants.{Upper, Lower}
 
 -- the sign that is read off the two ends: + the upper, - the lower, * both
 abbrev pub sign_of : Bool → Bool → Option Sign
@@ -21,33 +23,25 @@ sign_on g k = sign_of (has g.up k) (has g.down k)
 abbrev pub Within : ℕ → Placed → Type 0
 Within n g = (k : ℕ) → n ≤ k → sign_on g k ≡ None
 
--- what is left of a sign with the upper end taken away
-abbrev pub without_upper : Option Sign → Option Sign
-without_upper None = None
-without_upper (Some Plus) = None
-without_upper (Some Minus) = Some Minus
-without_upper (Some Star) = Some Minus
+-- what is left of a sign with an end taken away
+abbrev pub without_end : End → Option Sign → Option Sign
+without_end e None = None
+without_end Upper (Some Plus) = None
+without_end Upper (Some Minus) = Some Minus
+without_end Upper (Some Star) = Some Minus
+without_end Lower (Some Plus) = Some Plus
+without_end Lower (Some Minus) = None
+without_end Lower (Some Star) = Some Plus
 
--- what is left of a sign with the lower end taken away
-abbrev pub without_lower : Option Sign → Option Sign
-without_lower None = None
-without_lower (Some Plus) = Some Plus
-without_lower (Some Minus) = None
-without_lower (Some Star) = Some Plus
-
--- a sign has the upper end: + and *
-abbrev pub has_upper : Option Sign → Bool
-has_upper None = false
-has_upper (Some Plus) = true
-has_upper (Some Minus) = false
-has_upper (Some Star) = true
-
--- a sign has the lower end: - and *
-abbrev pub has_lower : Option Sign → Bool
-has_lower None = false
-has_lower (Some Plus) = false
-has_lower (Some Minus) = true
-has_lower (Some Star) = true
+-- a sign has an end: + and * the upper, - and * the lower
+abbrev pub has_end : End → Option Sign → Bool
+has_end e None = false
+has_end Upper (Some Plus) = true
+has_end Upper (Some Minus) = false
+has_end Upper (Some Star) = true
+has_end Lower (Some Plus) = false
+has_end Lower (Some Minus) = true
+has_end Lower (Some Star) = true
 
 -- two signs stand against each other: one is + and the other -
 abbrev pub opposed_signs : Option Sign → Option Sign → Bool

@@ -5,16 +5,23 @@
 #![tactic(auto)]
 
 ghost use Rattle.std.specs.Prelude.{◌≡◌, ℕ, ◌&&◌, if◌then◌else◌, Some, None, Decides, nat_eq, nat_lt};
-ghost use Rattle.groups.specs.declared.items.Sign.TheVariants.{Plus, Minus, Star};
+ghost use Rattle.groups.specs.declared.items.Sign.TheVariants.{Star};
 ghost use Rattle.groups.specs.Items.{joint};
 ghost use Rattle.levers.specs.Sets.{has};
-ghost use Rattle.placed.specs.Laws.{CoversOver, SameOver, CombinesOver, OpposesOver, JoinsOver};
-ghost use Rattle.placed.specs.Signs.{sign_of, sign_on, without_upper, without_lower, has_upper, has_lower, opposed_signs};
+ghost use Rattle.placed.specs.Laws.{CoversOver, SameOver, CombinesOver, OpposesOver};
+ghost use Rattle.placed.specs.Signs.{sign_on, without_end, has_end, opposed_signs};
 
 use groups::items::Sign;
 use levers::Levers;
 
 pub mod order;
+
+// An end of a lever.
+#[derive(Clone, Copy, PartialEq, Eq)]
+pub enum End {
+    Upper,
+    Lower,
+}
 
 // A group by the ends of its levers: + has the upper end, - the lower, * both.
 #[derive(Clone, Copy, PartialEq, Eq)]
@@ -47,132 +54,62 @@ impl Placed {
     }
 
     // The group with the lever at a place below 32 given a sign, whatever sign it had.
+    #[tactic(auto, using(crate::proofs::Ends::taken_out))]
     pub fn with(self, place: usize, sign: Sign) -> Placed
         ensures { (k : ℕ) → sign_on result k ≡ (if nat_eq k place && nat_lt place 32 then Some sign else sign_on self k) }
     {
-        match sign {
-            Sign::Plus => self.with_ends(place, true, false),
-            Sign::Minus => self.with_ends(place, false, true),
-            Sign::Star => self.with_ends(place, true, true),
-        }
+        let (up, down) = match sign {
+            Sign::Plus => (self.up.with(place), self.down.without(place)),
+            Sign::Minus => (self.up.without(place), self.down.with(place)),
+            Sign::Star => (self.up.with(place), self.down.with(place)),
+        };
+        Placed { up, down }
     }
 
     // Whether this group covers another: over any frame, whether what it spells covers what the other spells.
+    #[tactic(auto, using(crate::proofs::Spelled::covers_all, crate::proofs::Spelled::covers_not_up, crate::proofs::Spelled::covers_not_down))]
     pub fn covers(self, other: Placed) -> bool
-        ensures { CoversOver self other result }
-    {
-        self.ends_within(other)
-    }
-
-    // Whether two groups are the same: over any frame, whether they spell the same items.
-    pub fn same(self, other: Placed) -> bool
-        ensures { SameOver self other result }
-    {
-        self.ends_agree(other)
-    }
-
-    // The combination on the lever at a place: nothing unless this group has + there and the other -. Over any frame it
-    // spells the combination of the two on that lever's plate.
-    pub fn combine(self, other: Placed, place: usize) -> Option<Placed>
-        ensures { CombinesOver self other place result }
-    {
-        if self.opposes(other, place) {
-            Some(self.joined_without(other, place))
-        } else {
-            None
-        }
-    }
-
-    // The items of both groups, but for those of the lever at a place: a lever of both keeps its sign if the signs agree,
-    // else it gets *.
-    pub fn join(self, other: Placed, place: usize) -> Placed
-        ensures { (k : ℕ) → sign_on result k ≡ (if nat_eq k place then None else joint (sign_on self k) (sign_on other k)) }
-    {
-        self.ends_joined(other, place)
-    }
-
-    // The places at which one of the groups has + and the other -.
-    pub fn opposing(self, other: Placed) -> Levers
-        ensures { (k : ℕ) → has result k ≡ opposed_signs (sign_on self k) (sign_on other k) }
-    {
-        self.ends_opposing(other)
-    }
-
-    // The group with the upper end of the lever at a place taken away.
-    pub fn without_upper(self, place: usize) -> Placed
-        ensures { (k : ℕ) → sign_on result k ≡ (if nat_eq k place then without_upper (sign_on self k) else sign_on self k) }
-    {
-        self.upper_taken(place)
-    }
-
-    // The group with the lower end of the lever at a place taken away.
-    pub fn without_lower(self, place: usize) -> Placed
-        ensures { (k : ℕ) → sign_on result k ≡ (if nat_eq k place then without_lower (sign_on self k) else sign_on self k) }
-    {
-        self.lower_taken(place)
-    }
-
-    // Whether the group has the upper end of the lever at a place.
-    pub fn has_upper(self, place: usize) -> bool
-        ensures { result ≡ has_upper (sign_on self place) }
-    {
-        self.upper_end(place)
-    }
-
-    // Whether the group has the lower end of the lever at a place.
-    pub fn has_lower(self, place: usize) -> bool
-        ensures { result ≡ has_lower (sign_on self place) }
-    {
-        self.lower_end(place)
-    }
-
-    // The places at which the group has *.
-    pub fn between(self) -> Levers
-        ensures { (k : ℕ) → Decides (has result k) (sign_on self k ≡ Some Star) }
-    {
-        self.both_ends()
-    }
-
-    // The group with the two ends of the lever at a place below 32 set: whether it has the upper one, and the lower.
-    fn with_ends(self, place: usize, up: bool, down: bool) -> Placed
-        ensures { (k : ℕ) → sign_on result k ≡ (if nat_eq k place && nat_lt place 32 then sign_of up down else sign_on self k) }
-    {
-        Placed {
-            up: with_end(self.up, place, up),
-            down: with_end(self.down, place, down),
-        }
-    }
-
-    // Whether each end that this group has is one of the other's.
-    fn ends_within(self, other: Placed) -> bool
         ensures { CoversOver self other result }
     {
         self.up.within(other.up) && self.down.within(other.down)
     }
 
-    // Whether both groups have the same ends.
-    fn ends_agree(self, other: Placed) -> bool
+    // Whether two groups are the same: over any frame, whether they spell the same items. `==`, which is derived, promises
+    // nothing of the items.
+    #[tactic(auto, using(crate::proofs::Spelled::same_told))]
+    pub fn same(self, other: Placed) -> bool
         ensures { SameOver self other result }
     {
         self == other
     }
 
+    // The combination on the lever at a place: nothing unless this group has + there and the other -. Over any frame it
+    // spells the combination of the two on that lever's plate.
+    #[tactic(auto, using(crate::proofs::Spelled::spelled_rises, crate::proofs::Spelled::joined_dropped, crate::proofs::Spelled::joined_elsewhere))]
+    pub fn combine(self, other: Placed, place: usize) -> Option<Placed>
+        ensures { CombinesOver self other place result }
+    {
+        if self.opposes(other, place) {
+            Some(self.join(other, place))
+        } else {
+            None
+        }
+    }
+
     // Whether this group has + on the lever at a place and the other -.
+    #[tactic(auto, using(crate::proofs::Spelled::spelled_sign))]
     fn opposes(self, other: Placed, place: usize) -> bool
         ensures { OpposesOver self other place result }
     {
-        opposed(self.sign(place), other.sign(place))
+        matches!(
+            (self.sign(place), other.sign(place)),
+            (Some(Sign::Plus), Some(Sign::Minus))
+        )
     }
 
-    // The two joined, as the combination on the lever at a place where this group has + and the other -.
-    fn joined_without(self, other: Placed, place: usize) -> Placed
-        ensures { JoinsOver self other place result }
-    {
-        self.join(other, place)
-    }
-
-    // The ends of both groups, but for those of the lever at a place.
-    fn ends_joined(self, other: Placed, place: usize) -> Placed
+    // The items of both groups, but for those of the lever at a place: a lever of both keeps its sign if the signs agree,
+    // else it gets *.
+    pub fn join(self, other: Placed, place: usize) -> Placed
         ensures { (k : ℕ) → sign_on result k ≡ (if nat_eq k place then None else joint (sign_on self k) (sign_on other k)) }
     {
         Placed {
@@ -181,8 +118,8 @@ impl Placed {
         }
     }
 
-    // The places at which one group has the upper end alone and the other the lower end alone.
-    fn ends_opposing(self, other: Placed) -> Levers
+    // The places at which one of the groups has + and the other -.
+    pub fn opposing(self, other: Placed) -> Levers
         ensures { (k : ℕ) → has result k ≡ opposed_signs (sign_on self k) (sign_on other k) }
     {
         let pluses = self.up.minus(self.down);
@@ -194,62 +131,31 @@ impl Placed {
             .union(minuses.intersection(other_pluses))
     }
 
-    // The ends but for the upper one of the lever at a place.
-    fn upper_taken(self, place: usize) -> Placed
-        ensures { (k : ℕ) → sign_on result k ≡ (if nat_eq k place then without_upper (sign_on self k) else sign_on self k) }
+    // The group with an end of the lever at a place taken away.
+    pub fn without_end(self, place: usize, end: End) -> Placed
+        ensures { (k : ℕ) → sign_on result k ≡ (if nat_eq k place then without_end end (sign_on self k) else sign_on self k) }
     {
-        Placed {
-            up: self.up.without(place),
-            down: self.down,
+        let (up, down) = match end {
+            End::Upper => (self.up.without(place), self.down),
+            End::Lower => (self.up, self.down.without(place)),
+        };
+        Placed { up, down }
+    }
+
+    // Whether the group has an end of the lever at a place.
+    pub fn has_end(self, place: usize, end: End) -> bool
+        ensures { result ≡ has_end end (sign_on self place) }
+    {
+        match end {
+            End::Upper => self.up.has(place),
+            End::Lower => self.down.has(place),
         }
     }
 
-    // The ends but for the lower one of the lever at a place.
-    fn lower_taken(self, place: usize) -> Placed
-        ensures { (k : ℕ) → sign_on result k ≡ (if nat_eq k place then without_lower (sign_on self k) else sign_on self k) }
-    {
-        Placed {
-            up: self.up,
-            down: self.down.without(place),
-        }
-    }
-
-    // Whether the upper end of the lever at a place is one of the group's.
-    fn upper_end(self, place: usize) -> bool
-        ensures { result ≡ has_upper (sign_on self place) }
-    {
-        self.up.has(place)
-    }
-
-    // Whether the lower end of the lever at a place is one of the group's.
-    fn lower_end(self, place: usize) -> bool
-        ensures { result ≡ has_lower (sign_on self place) }
-    {
-        self.down.has(place)
-    }
-
-    // The places of which the group has both ends.
-    fn both_ends(self) -> Levers
+    // The places at which the group has *.
+    pub fn between(self) -> Levers
         ensures { (k : ℕ) → Decides (has result k) (sign_on self k ≡ Some Star) }
     {
         self.up.intersection(self.down)
     }
-}
-
-// The levers with the one at a place below 32 taken in or out.
-fn with_end(levers: Levers, place: usize, taken: bool) -> Levers
-    ensures { (k : ℕ) → has result k ≡ (if nat_eq k place && nat_lt place 32 then taken else has levers k) }
-{
-    if taken {
-        levers.with(place)
-    } else {
-        levers.without(place)
-    }
-}
-
-// Whether the first sign is + and the second -.
-fn opposed(a: Option<Sign>, b: Option<Sign>) -> bool
-    ensures { Decides result ((a ≡ Some Plus) × (b ≡ Some Minus)) }
-{
-    matches!((a, b), (Some(Sign::Plus), Some(Sign::Minus)))
 }

@@ -1,9 +1,9 @@
 // The table's order on groups: by number of items first, and at equal numbers by the signs at the lowest place at which the
 // two differ. specs/Laws.antt states it in the words of the spelled items, and specs/Order.antt has it as a function, as std's
 // traits ask: proofs/Own.antt shows that this function orders so over any frame.
-ghost use Rattle.std.specs.Prelude.{◌≡◌, length, IsSomeAnd, refl};
+ghost use Rattle.std.specs.Prelude.{◌≡◌, ◌<◌, length, IsSomeAnd, refl};
 ghost use Rattle.std.specs.Cmp.{partial_order_from_agreeing_total};
-ghost use Rattle.std.specs.Ordering.{as_partial_cmp};
+ghost use Rattle.std.specs.Ordering.{MatchOrdering, as_partial_cmp};
 ghost use Rattle.placed.specs.Laws.{CountsOver, DiffersFirst, EarlierOver, OrdersOver};
 ghost use Rattle.placed.specs.Order.{own_items, order, order_total, order_ties};
 ghost use Rattle.placed.specs.Signs.{rank_if};
@@ -38,30 +38,17 @@ impl Ord for Placed {
         ensures answer { result ≡ order self.now other.now }
         ensures over { OrdersOver self.now other.now result }
     {
-        self.order(*other)
+        self.number()
+            .cmp(&other.number())
+            .then_with(|| self.order_by_signs(*other))
     }
 }
 
 impl Placed {
-    // Which of two groups comes first in a table.
-    fn order(self, other: Placed) -> Ordering
-        ensures answer { result ≡ order self other }
-        ensures over { OrdersOver self other result }
-    {
-        let here = self.number();
-        let there = other.number();
-        if here < there {
-            Ordering::Less
-        } else if there < here {
-            Ordering::Greater
-        } else {
-            self.order_by_signs(other)
-        }
-    }
-
     // How many items the group has.
     fn number(self) -> u32
-        ensures { CountsOver self result }
+        ensures own { result ≡ length (own_items self) }
+        ensures over { CountsOver self result }
     {
         self.up.union(self.down).count()
     }
@@ -73,13 +60,7 @@ impl Placed {
     {
         match self.first_difference(other) {
             None => Ordering::Equal,
-            Some(place) => {
-                if rank(self.sign(place)) < rank(other.sign(place)) {
-                    Ordering::Less
-                } else {
-                    Ordering::Greater
-                }
-            }
+            Some(place) => order_of_signs(self.sign(place), other.sign(place)),
         }
     }
 
@@ -93,14 +74,14 @@ impl Placed {
     }
 }
 
-// The rank of a sign: + before - before *, and a sign before none.
-fn rank(sign: Option<Sign>) -> u8
-    ensures { result ≡ rank_if sign }
+// Which of two signs comes first: + before - before *, and a sign before none.
+fn order_of_signs(sign: Option<Sign>, other: Option<Sign>) -> Ordering
+    ensures { MatchOrdering result (rank_if sign < rank_if other) (sign ≡ other) (rank_if other < rank_if sign) }
 {
-    match sign {
-        Some(Sign::Plus) => 0,
-        Some(Sign::Minus) => 1,
-        Some(Sign::Star) => 2,
-        None => 3,
+    match (sign, other) {
+        (Some(sign), Some(other)) => sign.cmp(&other),
+        (Some(_), None) => Ordering::Less,
+        (None, Some(_)) => Ordering::Greater,
+        (None, None) => Ordering::Equal,
     }
 }

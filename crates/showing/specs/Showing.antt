@@ -63,3 +63,7 @@ pub data SetAt (t : List (List Item)) (ps : List ℕ) (place : ℕ) (g r : Place
 -- r is g with the lever at a place set, over any frame that has the levers
 abbrev pub SetOver : List Placed → Placed → ℕ → Placed → Type 0
 SetOver table g place r = (ps : List ℕ) → Holds ps table → SetAt (spell_all ps table) ps place g r
+
+-- r is n, unless the table covers n, and then m
+abbrev pub FirstOver : List Placed → Placed → Placed → Placed → Type 0
+FirstOver table n m r = (ps : List ℕ) → Holds ps table → r ≡ cond (covered_by (spell_all ps table) (spell ps n)) m n

@@ -3,72 +3,82 @@
 // says which setting is the first.
 #![tactic(auto)]
 
-ghost use Rattle.showing.specs.Showing.{ShownOver, FoundOver, CompletedOver, SetOver};
+ghost use Rattle.showing.specs.Showing.{ShownOver, FoundOver, CompletedOver, SetOver, FirstOver};
 
 use groups::items::Sign;
 use placed::Placed;
 use telling::covered;
 
+// The complete table, over levers with places below `places`.
+#[derive(Clone, Copy)]
+pub struct Table<'a> {
+    pub groups: &'a [Placed],
+    pub places: usize,
+}
+
 // What a group shows: never anything, as a group of the table covers it, or a setting, written as a group that names each
-// lever.
+// lever. Both are answers and neither is an error, so no Result.
 #[derive(Clone, Copy)]
 pub enum Shown {
     Never(Placed),
     Thus(Placed),
 }
 
-// What a group shows, by the complete table, over levers with places up to `places`: the first group of the table that
-// covers it, or the first setting.
-pub fn show(table: &[Placed], places: usize, group: Placed) -> Shown
-    ensures { ShownOver table.now places group result }
-{
-    cover_or_setting(table, places, group)
-}
-
-// The first group of the table that covers a group, or else the first setting.
-fn cover_or_setting(table: &[Placed], places: usize, group: Placed) -> Shown
-    ensures { ShownOver table.now places group result }
-{
-    match first_cover(table, group) {
-        Some(cover) => Shown::Never(cover),
-        None => Shown::Thus(complete(table, places, group)),
-    }
-}
-
-// The first group of the table that covers a group, if one does.
-fn first_cover(table: &[Placed], group: Placed) -> Option<Placed>
-    ensures { FoundOver table.now group result }
-{
-    for other in table {
-        if other.covers(group) {
-            return Some(*other);
+impl Table<'_> {
+    // What a group shows: the first group of the table that covers it, or else the first setting.
+    pub fn show(&self, group: Placed) -> Shown
+        ensures { ShownOver self.now.groups.now self.now.places group result }
+    {
+        match self.first_cover(group) {
+            Some(cover) => Shown::Never(cover),
+            None => Shown::Thus(self.complete(group)),
         }
     }
-    None
-}
 
-// The first setting for a group that is not forbidden: each lever is set, place by place.
-fn complete(table: &[Placed], places: usize, group: Placed) -> Placed
-    ensures { CompletedOver table.now places group result }
-{
-    let mut whole = group;
-    for place in 0..places {
-        whole = set_at(table, whole, place);
+    // The first group of the table that covers a group, if one does.
+    fn first_cover(&self, group: Placed) -> Option<Placed>
+        ensures { FoundOver self.now.groups.now group result }
+    {
+        self.groups
+            .iter()
+            .find(|other| other.covers(group))
+            .copied()
     }
-    whole
-}
 
-// The group with the lever at a place set, if it is not named yet: normal, or reversed where normal is covered.
-fn set_at(table: &[Placed], group: Placed, place: usize) -> Placed
-    ensures { SetOver table.now group place result }
-{
-    if group.sign(place).is_some() {
-        return group;
+    // The first setting for a group that is not forbidden: each lever is set, place by place. A `fold` is no shorter, and its
+    // proof would have to find each place in a list.
+    fn complete(&self, group: Placed) -> Placed
+        ensures { CompletedOver self.now.groups.now self.now.places group result }
+    {
+        let mut whole = group;
+        for place in 0..self.places {
+            whole = self.set_at(whole, place);
+        }
+        whole
     }
-    let normal = group.with(place, Sign::Plus);
-    if covered(table, normal) {
-        group.with(place, Sign::Minus)
-    } else {
-        normal
+
+    // The group with the lever at a place set, if it is not named yet: normal, or reversed where normal is covered.
+    fn set_at(&self, group: Placed, place: usize) -> Placed
+        ensures { SetOver self.now.groups.now group place result }
+    {
+        if group.sign(place).is_some() {
+            group
+        } else {
+            self.normal_first(
+                group.with(place, Sign::Plus),
+                group.with(place, Sign::Minus),
+            )
+        }
+    }
+
+    // Of a group with a lever normal and with it reversed the first, unless the table covers it.
+    fn normal_first(&self, normal: Placed, reversed: Placed) -> Placed
+        ensures { FirstOver self.now.groups.now normal reversed result }
+    {
+        if covered(self.groups, normal) {
+            reversed
+        } else {
+            normal
+        }
     }
 }

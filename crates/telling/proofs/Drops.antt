@@ -1,5 +1,5 @@
 -- One end less of a group by its places. Assumes nothing.
-use Rattle.std.proofs.Common.{◌≡◌, ℕ, zero, suc, ◌+◌, ◌<◌, Bool, true, false, cond, eqb, ◌⊎◌, List, [], ◌∷◌, length, get_or, is_some, Option, sym, refl, ap, ◌∙◌, subst, inl, inr, ⊎_elim, arith}
+use Rattle.std.proofs.Common.{◌≡◌, ℕ, zero, suc, ◌+◌, ◌<◌, true, false, cond, eqb, ◌⊎◌, List, [], ◌∷◌, length, get_or, is_some, Option, sym, refl, ap, ◌∙◌, subst, inl, inr, ⊎_elim, arith}
 use Rattle.std.specs.List.{AllByRecursion}
 use Rattle.std.proofs.ByRecursion.{All-map}
 use Rattle.std.proofs.lemmas.Bool.{eq-eqb, ne_eqb, cond-true, cond-false, cases_eq, cases_Bool, cases_lt, both_ways, false≢true, and_from, or_left, or_right}
@@ -16,7 +16,9 @@ use Rattle.meaning.proofs.Fitted.{over_parts, names_fitted}
 use Rattle.meaning.proofs.Monotone.{read_more}
 use Rattle.meaning.proofs.SomeTable.{all_of}
 use Rattle.placed.specs.declared.Placed.{Placed}
-use Rattle.placed.specs.Signs.{Within, sign_on, has_upper, has_lower, without_upper, without_lower}
+use Rattle.placed.specs.declared.End.{End}
+use Rattle.placed.specs.declared.End.TheVariants.{Upper, Lower}
+use Rattle.placed.specs.Signs.{Within, sign_on, has_end, without_end}
 use Rattle.placed.specs.Spelling.{spell}
 use Rattle.placed.proofs.Spelled.{spelled_sign, spelled_none, spelled_rises}
 use Rattle.rows.specs.Rows.{spell_all}
@@ -51,28 +53,18 @@ spell_within ps a b c w q = at_plate (place_cases ps q)
 
 -- ## One end
 
--- an end that signs have or have not, and what is left of a sign without it
-pub record EndLaws (has : Option Sign → Bool) (without : Option Sign → Option Sign) : Type 0 where
-  pub gone : (o : Option Sign) → has (without o) ≡ false
-  pub less : (o : Option Sign) → EndsWithin (without o) o
-  pub keeps : (k o : Option Sign) → EndsWithin k o → has k ≡ false → EndsWithin k (without o)
-  pub more : (o u : Option Sign) → EndsWithin o u → has o ≡ true → has u ≡ true
+-- what is left of a sign without an end
+gone : (e : End) (o : Option Sign) → has_end e (without_end e o) ≡ false
+gone e o = grind arith
 
-pub upper_laws : EndLaws has_upper without_upper
-upper_laws = record {
-  gone = λ o. grind arith;
-  less = λ o e h. grind arith;
-  keeps = λ k o w n e h. let a = w e in grind arith;
-  more = λ o u w h. let a = w upper in grind arith;
-}
+part : (e : End) (o : Option Sign) → EndsWithin (without_end e o) o
+part e o d h = grind arith
 
-pub lower_laws : EndLaws has_lower without_lower
-lower_laws = record {
-  gone = λ o. grind arith;
-  less = λ o e h. grind arith;
-  keeps = λ k o w n e h. let a = w e in grind arith;
-  more = λ o u w h. let a = w lower in grind arith;
-}
+keeps : (e : End) (k o : Option Sign) → EndsWithin k o → has_end e k ≡ false → EndsWithin k (without_end e o)
+keeps e k o w n d h = let a = w d in grind arith
+
+more : (e : End) (o u : Option Sign) → EndsWithin o u → has_end e o ≡ true → has_end e u ≡ true
+more e o u w h = let a = w upper in let b = w lower in grind arith
 
 pub shorter_itself : (ps : List ℕ) (t : List (List Item)) (l : List Item) (g : Placed) → climbing 0 ps ≡ true → Within (length ps) g → read_off t l (spell ps g) ≡ true → Shorter ps t l g g
 shorter_itself ps t l g c w r = record { within = w; told = r; covering = covers_itself (spell ps g) (spelled_rises ps g c) }
@@ -81,11 +73,11 @@ pub shorter_trans : (ps : List ℕ) (t : List (List Item)) (l : List Item) (g r 
 shorter_trans ps t l g r s c a b = record { within = b.within; told = b.told; covering = covers_trans (spell ps s) (spell ps r) (spell ps g) (spelled_rises ps s c) b.covering a.covering }
 
 -- an end that can't go can't go from a shorter group
-pub firm_less : (ps : List ℕ) (t : List (List Item)) (l : List Item) (has : Option Sign → Bool) (without : Option Sign → Option Sign) → EndLaws has without → (p : ℕ) (r s : List Item) → covers s r ≡ true → FirmAt ps t l has p r → FirmAt ps t l has p s
-firm_less ps t l has without laws p r s c firm x o k q h =
-    firm x o (covers_trans x s r (over_parts ps x o).rises k c) q (laws.more (sign_at s p) (sign_at r p) (covers_has s r c p) h)
+pub firm_less : (ps : List ℕ) (t : List (List Item)) (l : List Item) (e : End) (p : ℕ) (r s : List Item) → covers s r ≡ true → FirmAt ps t l e p r → FirmAt ps t l e p s
+firm_less ps t l e p r s c firm x o k q h =
+    firm x o (covers_trans x s r (over_parts ps x o).rises k c) q (more e (sign_at s p) (sign_at r p) (covers_has s r c p) h)
 
-module _ (has : Option Sign → Bool) (without : Option Sign → Option Sign) (laws : EndLaws has without) (ps : List ℕ) (table : List Placed) (line g : Placed) (place : ℕ) (holds : Holds ps table) (l : place < length ps) (w : Within (length ps) g) (told : read_off (spell_all ps table) (spell ps line) (spell ps g) ≡ true) where
+module _ (e : End) (ps : List ℕ) (table : List Placed) (line g : Placed) (place : ℕ) (holds : Holds ps table) (l : place < length ps) (w : Within (length ps) g) (told : read_off (spell_all ps table) (spell ps line) (spell ps g) ≡ true) where
   abbrev c : climbing 0 ps ≡ true
   c = holds.climbs
 
@@ -93,19 +85,19 @@ module _ (has : Option Sign → Bool) (without : Option Sign → Option Sign) (l
   here = spelled_sign ps g place c l
 
   -- the group has not the end
-  pub end_missing : has (sign_on g place) ≡ false → EndTried has place g g ps (spell_all ps table) (spell ps line)
+  pub end_missing : has_end e (sign_on g place) ≡ false → EndTried e place g g ps (spell_all ps table) (spell ps line)
   end_missing n =
       record {
         shorter = shorter_itself ps (spell_all ps table) (spell ps line) g c w told;
-        firm = λ x o k q h. absurd (both_ways (has (sign_at (spell ps g) (get_or ps place 0))) (ap has here ∙ n) h);
+        firm = λ x o k q h. absurd (both_ways (has_end e (sign_at (spell ps g) (get_or ps place 0))) (ap (has_end e) here ∙ n) h);
       }
 
-  module _ (less : Placed) (signs : (k : ℕ) → sign_on less k ≡ cond (eqb k place) (without (sign_on g k)) (sign_on g k)) where
-    at_place : sign_on less place ≡ without (sign_on g place)
-    at_place = signs place ∙ cond-true (eqb place place) (without (sign_on g place)) (sign_on g place) (eq-eqb place place refl)
+  module _ (less : Placed) (signs : (k : ℕ) → sign_on less k ≡ cond (eqb k place) (without_end e (sign_on g k)) (sign_on g k)) where
+    at_place : sign_on less place ≡ without_end e (sign_on g place)
+    at_place = signs place ∙ cond-true (eqb place place) (without_end e (sign_on g place)) (sign_on g place) (eq-eqb place place refl)
 
     elsewhere : (k : ℕ) → (k ≡ place → ⊥) → sign_on less k ≡ sign_on g k
-    elsewhere k ne = signs k ∙ cond-false (eqb k place) (without (sign_on g k)) (sign_on g k) (ne_eqb k place ne)
+    elsewhere k ne = signs k ∙ cond-false (eqb k place) (without_end e (sign_on g k)) (sign_on g k) (ne_eqb k place ne)
 
     less_within : Within (length ps) less
     less_within k h = elsewhere k (λ e. omega arith) ∙ w k h
@@ -113,15 +105,15 @@ module _ (has : Option Sign → Bool) (without : Option Sign → Option Sign) (l
     less_ends : (k : ℕ) → EndsWithin (sign_on less k) (sign_on g k)
     less_ends k =
         ⊎_elim
-        (λ e. subst (λ n. EndsWithin (sign_on less n) (sign_on g n)) (sym e) (λ d h. laws.less (sign_on g place) d (ap (λ o. ends o d) (sym at_place) ∙ h)))
+        (λ q. subst (λ n. EndsWithin (sign_on less n) (sign_on g n)) (sym q) (λ d h. part e (sign_on g place) d (ap (λ o. ends o d) (sym at_place) ∙ h)))
         (λ ne d h. ap (λ o. ends o d) (sym (elsewhere k ne)) ∙ h)
         (cases_eq k place)
 
     less_covers : covers (spell ps less) (spell ps g) ≡ true
     less_covers = has_covers (spell ps less) (spell ps g) (spelled_rises ps less c) (spell_within ps less g c less_ends)
 
-    less_here : sign_at (spell ps less) (get_or ps place 0) ≡ without (sign_at (spell ps g) (get_or ps place 0))
-    less_here = spelled_sign ps less place c l ∙ at_place ∙ ap without (sym here)
+    less_here : sign_at (spell ps less) (get_or ps place 0) ≡ without_end e (sign_at (spell ps g) (get_or ps place 0))
+    less_here = spelled_sign ps less place c l ∙ at_place ∙ ap (without_end e) (sym here)
 
     less_other : (q : ℕ) → (q ≡ get_or ps place 0 → ⊥) → sign_at (spell ps less) q ≡ sign_at (spell ps g) q
     less_other q ne = at_plate (place_cases ps q)
@@ -131,45 +123,41 @@ module _ (has : Option Sign → Bool) (without : Option Sign → Option Sign) (l
         at_plate (inr n) = spelled_none ps less q n ∙ sym (spelled_none ps g q n)
 
     -- a group that covers g and has not the end covers what is left of g without it
-    covers_less : (x : List Item) → group_over ps x ≡ true → covers x (spell ps g) ≡ true → has (sign_at x (get_or ps place 0)) ≡ false → covers x (spell ps less) ≡ true
+    covers_less : (x : List Item) → group_over ps x ≡ true → covers x (spell ps g) ≡ true → has_end e (sign_at x (get_or ps place 0)) ≡ false → covers x (spell ps less) ≡ true
     covers_less x o k n =
         has_covers x (spell ps less) (over_parts ps x o).rises
         (within_all x (sign_at (spell ps less)) (get_or ps place 0)
-        (λ d h. ap (λ u. ends u d) less_here ∙ laws.keeps (sign_at x (get_or ps place 0)) (sign_at (spell ps g) (get_or ps place 0)) (covers_has x (spell ps g) k (get_or ps place 0)) n d h)
+        (λ d h. ap (λ u. ends u d) less_here ∙ keeps e (sign_at x (get_or ps place 0)) (sign_at (spell ps g) (get_or ps place 0)) (covers_has x (spell ps g) k (get_or ps place 0)) n d h)
         (λ q ne d h. ap (λ u. ends u d) (less_other q ne) ∙ covers_has x (spell ps g) k q d h))
 
-    end_firm : read_off (spell_all ps table) (spell ps line) (spell ps less) ≡ false → FirmAt ps (spell_all ps table) (spell ps line) has (get_or ps place 0) (spell ps g)
+    end_firm : read_off (spell_all ps table) (spell ps line) (spell ps less) ≡ false → FirmAt ps (spell_all ps table) (spell ps line) e (get_or ps place 0) (spell ps g)
     end_firm n x o k q h =
         ⊎_elim
         (λ y. y)
         (λ y.
         absurd (both_ways (read_off (spell_all ps table) (spell ps line) (spell ps less)) n
         (read_more ps (spell_all ps table) (spell_all_over ps table c) (spell ps line) (spelled_rises ps line c) x (spell ps less) o (spell_over ps less c) (covers_less x o k y) q)))
-        (cases_Bool (has (sign_at x (get_or ps place 0))))
+        (cases_Bool (has_end e (sign_at x (get_or ps place 0))))
 
-    pub end_tried : (r : Placed) → r ≡ cond (read_off (spell_all ps table) (spell ps line) (spell ps less)) less g → EndTried has place g r ps (spell_all ps table) (spell ps line)
-    end_tried r e =
-        ⊎_elim
-        (λ y.
-        subst (λ z. EndTried has place g z ps (spell_all ps table) (spell ps line)) (sym (e ∙ cond-true (read_off (spell_all ps table) (spell ps line) (spell ps less)) less g y))
-        (record {
+    -- the end goes where the table tells of the rest, and else it can't go
+    pub end_gone : read_off (spell_all ps table) (spell ps line) (spell ps less) ≡ true → EndTried e place g less ps (spell_all ps table) (spell ps line)
+    end_gone y =
+        record {
           shorter = record { within = less_within; told = y; covering = less_covers };
-          firm = λ x o k q h. absurd (both_ways (has (sign_at (spell ps less) (get_or ps place 0))) (ap has less_here ∙ laws.gone (sign_at (spell ps g) (get_or ps place 0))) h);
-        }))
-        (λ y.
-        subst (λ z. EndTried has place g z ps (spell_all ps table) (spell ps line)) (sym (e ∙ cond-false (read_off (spell_all ps table) (spell ps line) (spell ps less)) less g y))
-        (record { shorter = shorter_itself ps (spell_all ps table) (spell ps line) g c w told; firm = end_firm y }))
-        (cases_Bool (read_off (spell_all ps table) (spell ps line) (spell ps less)))
+          firm = λ x o k q h. absurd (both_ways (has_end e (sign_at (spell ps less) (get_or ps place 0))) (ap (has_end e) less_here ∙ gone e (sign_at (spell ps g) (get_or ps place 0))) h);
+        }
+
+    pub end_stays : read_off (spell_all ps table) (spell ps line) (spell ps less) ≡ false → EndTried e place g g ps (spell_all ps table) (spell ps line)
+    end_stays n = record { shorter = shorter_itself ps (spell_all ps table) (spell ps line) g c w told; firm = end_firm n }
 
 -- ## Both ends of a place, and place after place
 
-pub place_tried : (ps : List ℕ) (t : List (List Item)) (l : List Item) (place : ℕ) (g r s : Placed) → climbing 0 ps ≡ true → EndTried has_upper place g r ps t l → EndTried has_lower place r s ps t l → PlaceTried place g s ps t l
-place_tried ps t l place g r s c a b =
-    record {
-      shorter = shorter_trans ps t l g r s c a.shorter b.shorter;
-      upper = firm_less ps t l has_upper without_upper upper_laws (get_or ps place 0) (spell ps r) (spell ps s) b.shorter.covering a.firm;
-      lower = b.firm;
-    }
+pub place_tried : (ps : List ℕ) (t : List (List Item)) (l : List Item) (place : ℕ) (g r s : Placed) → climbing 0 ps ≡ true → EndTried Upper place g r ps t l → EndTried Lower place r s ps t l → PlaceTried place g s ps t l
+place_tried ps t l place g r s c a b = record { shorter = shorter_trans ps t l g r s c a.shorter b.shorter; firm = firm }
+  where
+    firm : (e : End) → FirmAt ps t l e (get_or ps place 0) (spell ps s)
+    firm Upper = firm_less ps t l Upper (get_or ps place 0) (spell ps r) (spell ps s) b.shorter.covering a.firm
+    firm Lower = b.firm
 
 -- what is known before a place is tried
 pub record Upto (place : ℕ) (g r : Placed) (ps : List ℕ) (t : List (List Item)) (l : List Item) : Type 0 where
@@ -183,13 +171,9 @@ pub upto_more : (ps : List ℕ) (t : List (List Item)) (l : List Item) (place : 
 upto_more ps t l place g r s c a b =
     record {
       shorter = shorter_trans ps t l g r s c a.shorter b.shorter;
-      firm = λ j h.
+      firm = λ j h e.
           ⊎_elim
-          (λ m.
-          let f = a.firm j m in
-          (firm_less ps t l has_upper without_upper upper_laws (get_or ps j 0) (spell ps r) (spell ps s) b.shorter.covering f.0, firm_less ps t l has_lower without_lower lower_laws (get_or ps j 0) (spell ps r) (spell ps s) b.shorter.covering f.1))
-          (λ m.
-          let e : place ≡ j = omega arith in
-          (subst (λ n. FirmAt ps t l has_upper (get_or ps n 0) (spell ps s)) e b.upper, subst (λ n. FirmAt ps t l has_lower (get_or ps n 0) (spell ps s)) e b.lower))
+          (λ m. firm_less ps t l e (get_or ps j 0) (spell ps r) (spell ps s) b.shorter.covering (a.firm j m e))
+          (λ m. let q : place ≡ j = omega arith in subst (λ n. FirmAt ps t l e (get_or ps n 0) (spell ps s)) q (b.firm e))
           (cases_lt j place);
     }

@@ -1,8 +1,10 @@
--- The steps by which the table tells: one group more, one place more. Assumes nothing.
-use Rattle.std.proofs.Common.{◌≡◌, ℕ, suc, ◌+◌, ◌<◌, ◌≤◌, Bool, true, false, cond, ◌&&◌, ◌||◌, eqb, ltb, ◌⊎◌, List, ◌++◌, length, get_or, drop, Some, None, Option, sym, refl, ap, ◌∙◌, subst, inl, inr, ⊎_elim, arith}
+-- The steps by which the table tells: the groups of the table, the places of the line, one place. Assumes nothing.
+use Rattle.std.proofs.Common.{◌≡◌, ℕ, zero, suc, ◌+◌, ◌<◌, ◌≤◌, Bool, true, false, cond, ◌&&◌, eqb, ltb, ◌⊎◌, List, [], ◌∷◌, ◌++◌, length, get_or, Some, None, Option, sym, refl, ap, ◌∙◌, subst, inl, inr, ⊎_elim, arith}
 use Rattle.std.proofs.ByRecursion.{All-get_or}
-use Rattle.std.proofs.lemmas.List.{at_drop_more, at_drop_all}
-use Rattle.std.proofs.lemmas.Bool.{cases_eq, eq-eqb, ne_eqb, cond-true, cond-false, and_from, and_left, lt-ltb}
+use Rattle.std.specs.Bool.{MatchBool}
+use Rattle.std.specs.List.{AllWithin as AllOf, HoldsAt, range_with_len}
+use Rattle.std.proofs.lemmas.List.FromFn.{length-range_with_len, get_or-range_with_len}
+use Rattle.std.proofs.lemmas.Bool.{cases_eq, eq-eqb, ne_eqb, cond-true, cond-false, and_from, and_left, and_right, or_left, or_right, or_from, lt-ltb}
 use Rattle.groups.specs.declared.items.Item.{Item}
 use Rattle.groups.specs.declared.items.Sign.{Sign}
 use Rattle.groups.specs.Items.{sign_at, insert, covers}
@@ -12,57 +14,77 @@ use Rattle.groups.proofs.Rising.{same_signs, insert_rises, insert_sign}
 use Rattle.meaning.specs.Tables.{covered_by}
 use Rattle.meaning.specs.Laws.{all_settled}
 use Rattle.placed.specs.declared.Placed.{Placed}
+use Rattle.placed.specs.Laws.{CoversOver}
+use Rattle.placed.proofs.Ends.{blank}
 use Rattle.placed.specs.Signs.{Within, sign_on}
 use Rattle.placed.specs.Spelling.{spell, spell_from}
 use Rattle.placed.proofs.Spelled.{spelled_sign, spelled_none, spelled_rises}
 use Rattle.rows.specs.Rows.{spell_all, AllWithin}
 use Rattle.telling.specs.declared.Gap.TheVariants.{Filled, Opposite, Open}
 use Rattle.telling.specs.Gaps.{gap_of}
-use Rattle.telling.specs.Told.{Holds, settled_if}
+use Rattle.telling.specs.Told.{Holds, settled_if, SettledOver}
 
--- ## One group after the other
+-- ## The groups of the table
 
-module _ (ps : List ℕ) (table : List Placed) (g : Placed) (i : ℕ) (d : Placed) (l : i < length table) where
-  -- the groups from place i on
-  abbrev pub CoveredFrom : ℕ → Bool
-  CoveredFrom k = covered_by (spell_all ps (drop k table)) (spell ps g)
+-- a group at some place covers
+pub covered_at : (ps : List ℕ) (table : List Placed) (g : List Item) (i : ℕ) (d : Placed) → i < length table → covers (spell ps (get_or table i d)) g ≡ true → covered_by (spell_all ps table) g ≡ true
+covered_at ps [] g i d l h = absurd (omega arith)
+covered_at ps (a ∷ table) g zero d l h = or_left (covers (spell ps a) g) (covered_by (spell_all ps table) g) h
+covered_at ps (a ∷ table) g (suc i) d l h = or_right (covers (spell ps a) g) (covered_by (spell_all ps table) g) (covered_at ps table g i d (omega arith) h)
 
-  covered_next : CoveredFrom i ≡ (covers (spell ps (get_or table i d)) (spell ps g) || CoveredFrom (i + 1))
-  covered_next = at_drop_more (λ gs. covered_by (spell_all ps gs) (spell ps g)) table i d l
-
-  pub covered_here : covers (spell ps (get_or table i d)) (spell ps g) ≡ true → CoveredFrom i ≡ true
-  covered_here h = covered_next ∙ ap (λ b. b || CoveredFrom (i + 1)) h
-
-  pub covered_later : covers (spell ps (get_or table i d)) (spell ps g) ≡ false → CoveredFrom (i + 1) ≡ CoveredFrom i
-  covered_later h = sym (covered_next ∙ ap (λ b. b || CoveredFrom (i + 1)) h)
-
-pub covered_end : (ps : List ℕ) (table : List Placed) (g : Placed) (i : ℕ) → length table ≤ i → covered_by (spell_all ps (drop i table)) (spell ps g) ≡ false
-covered_end ps table g i l = at_drop_all (λ gs. covered_by (spell_all ps gs) (spell ps g)) table i l
+-- no group at any place covers
+pub covered_nowhere : (ps : List ℕ) (table : List Placed) (g : List Item) (d : Placed) → ((j : ℕ) → j < length table → covers (spell ps (get_or table j d)) g ≡ false) → covered_by (spell_all ps table) g ≡ false
+covered_nowhere ps [] g d h = refl
+covered_nowhere ps (a ∷ table) g d h = or_from _ _ (h 0 (omega arith)) (covered_nowhere ps table g d (λ j l. h (suc j) (omega arith)))
 
 pub within_at : (ps : List ℕ) (table : List Placed) (i : ℕ) (d : Placed) → i < length table → AllWithin (length ps) table → Within (length ps) (get_or table i d)
 within_at ps table i d l w = All-get_or (Within (length ps)) table i d l w
 
--- ## One place after the other
+-- what a search through the table for one that covers answers
+pub covered_told : (ps : List ℕ) (table : List Placed) (g : Placed) (r : Bool) → Holds ps table → MatchBool r ((k : ℕ) × (k < length table) × HoldsAt (λ a. CoversOver a g true) table k) (AllOf (λ a. CoversOver a g false) table 0 (length table)) → r ≡ covered_by (spell_all ps table) (spell ps g)
+covered_told ps table g true h m =
+    sym (covered_at ps table (spell ps g) m.0 blank m.1 (sym (m.2 blank ps h.climbs (within_at ps table m.0 blank m.1 h.within))))
+covered_told ps table g false h m =
+    sym (covered_nowhere ps table (spell ps g) blank (λ j l. sym (m j blank (omega arith) l ps h.climbs (within_at ps table j blank l h.within))))
+
+-- ## The places of the line
 
 settled_item : (t : List (List Item)) (g : List Item) (p : ℕ) (o : Option Sign) (xs : List Item) → all_settled t g (item_if p o ++ xs) ≡ (settled_if t g p o && all_settled t g xs)
 settled_item t g p None xs = refl
 settled_item t g p (Some s) xs = refl
 
-module _ (t : List (List Item)) (g : List Item) (line : Placed) (ps : List ℕ) (k : ℕ) (l : k < length ps) where
-  settled_next : all_settled t g (spell_from k (drop k ps) line) ≡ (settled_if t g (get_or ps k 0) (sign_on line k) && all_settled t g (spell_from (k + 1) (drop (k + 1) ps) line))
-  settled_next =
-      at_drop_more (λ qs. all_settled t g (spell_from k qs line)) ps k 0 l
-      ∙ settled_item t g (get_or ps k 0) (sign_on line k) (spell_from (suc k) (drop (k + 1) ps) line)
-      ∙ ap (λ n. settled_if t g (get_or ps k 0) (sign_on line k) && all_settled t g (spell_from n (drop (k + 1) ps) line)) (let e : suc k ≡ k + 1 = omega arith in e)
+settled_from : (t : List (List Item)) (g : List Item) (line : Placed) (k : ℕ) (ps : List ℕ) → ((j : ℕ) → j < length ps → settled_if t g (get_or ps j 0) (sign_on line (k + j)) ≡ true) → all_settled t g (spell_from k ps line) ≡ true
+settled_from t g line k [] h = refl
+settled_from t g line k (p ∷ ps) h =
+    settled_item t g p (sign_on line k) (spell_from (suc k) ps line)
+    ∙ and_from _ _
+    (ap (λ n. settled_if t g p (sign_on line n)) (let e : k ≡ k + 0 = omega arith in e) ∙ h 0 (omega arith))
+    (settled_from t g line (suc k) ps (λ j l. ap (λ n. settled_if t g (get_or ps j 0) (sign_on line n)) (let e : suc k + j ≡ k + suc j = omega arith in e) ∙ h (suc j) (omega arith)))
 
-  pub unsettled_here : settled_if t g (get_or ps k 0) (sign_on line k) ≡ false → all_settled t g (spell_from k (drop k ps) line) ≡ false
-  unsettled_here h = settled_next ∙ ap (λ b. b && all_settled t g (spell_from (k + 1) (drop (k + 1) ps) line)) h
+unsettled_from : (t : List (List Item)) (g : List Item) (line : Placed) (k : ℕ) (ps : List ℕ) (j : ℕ) → j < length ps → settled_if t g (get_or ps j 0) (sign_on line (k + j)) ≡ false → all_settled t g (spell_from k ps line) ≡ false
+unsettled_from t g line k [] j l h = absurd (omega arith)
+unsettled_from t g line k (p ∷ ps) zero l h =
+    settled_item t g p (sign_on line k) (spell_from (suc k) ps line)
+    ∙ and_left _ _ (ap (λ n. settled_if t g p (sign_on line n)) (let e : k ≡ k + 0 = omega arith in e) ∙ h)
+unsettled_from t g line k (p ∷ ps) (suc j) l h =
+    settled_item t g p (sign_on line k) (spell_from (suc k) ps line)
+    ∙ and_right _ _ (unsettled_from t g line (suc k) ps j (omega arith) (ap (λ n. settled_if t g (get_or ps j 0) (sign_on line n)) (let e : suc k + j ≡ k + suc j = omega arith in e) ∙ h))
 
-  pub settled_later : settled_if t g (get_or ps k 0) (sign_on line k) ≡ true → all_settled t g (spell_from (k + 1) (drop (k + 1) ps) line) ≡ all_settled t g (spell_from k (drop k ps) line)
-  settled_later h = sym (settled_next ∙ ap (λ b. b && all_settled t g (spell_from (k + 1) (drop (k + 1) ps) line)) h)
-
-pub settled_end : (t : List (List Item)) (g : List Item) (line : Placed) (ps : List ℕ) (k : ℕ) → length ps ≤ k → all_settled t g (spell_from k (drop k ps) line) ≡ true
-settled_end t g line ps k l = at_drop_all (λ qs. all_settled t g (spell_from k qs line)) ps k l
+-- what a search through the places for one that is not settled answers
+pub settled_told : (ps : List ℕ) (table : List Placed) (line g : Placed) (places : ℕ) (r : Bool) → Holds ps table → length ps ≡ places → MatchBool r (AllOf (λ k. SettledOver table line g k true) (range_with_len 0 places) 0 (length (range_with_len 0 places))) ((k : ℕ) × (k < length (range_with_len 0 places)) × HoldsAt (λ k. SettledOver table line g k false) (range_with_len 0 places) k) → r ≡ all_settled (spell_all ps table) (spell ps g) (spell ps line)
+settled_told ps table line g places true h e m =
+    let n = length-range_with_len 0 places in
+    sym (settled_from (spell_all ps table) (spell ps g) line 0 ps (λ j l.
+    let q : get_or (range_with_len 0 places) j 0 ≡ j = get_or-range_with_len 0 places j 0 (omega arith) ∙ omega arith in
+    ap (λ k. settled_if (spell_all ps table) (spell ps g) (get_or ps j 0) (sign_on line k)) (let z : 0 + j ≡ j = omega arith in z)
+    ∙ sym (subst (λ k. SettledOver table line g k true) q (m j 0 (omega arith) (omega arith)) ps h l)))
+settled_told ps table line g places false h e m =
+    let n = length-range_with_len 0 places in
+    let l : m.0 < length ps = let b = m.1 in omega arith in
+    let q : get_or (range_with_len 0 places) m.0 0 ≡ m.0 = get_or-range_with_len 0 places m.0 0 (omega arith) ∙ omega arith in
+    sym (unsettled_from (spell_all ps table) (spell ps g) line 0 ps m.0 l
+    (ap (λ k. settled_if (spell_all ps table) (spell ps g) (get_or ps m.0 0) (sign_on line k)) (let z : 0 + m.0 ≡ m.0 = omega arith in z)
+    ∙ sym (subst (λ k. SettledOver table line g k false) q (m.2 0) ps h l)))
 
 -- ## One place
 

@@ -1,23 +1,23 @@
 -- A group shortened as far as the table tells it to be forbidden. Assumes nothing.
-use Rattle.std.specs.Prelude.{◌≡◌, ℕ, ◌<◌, Bool, true, cond, List, length, Option, slice_index}
+use Rattle.std.specs.Prelude.{◌≡◌, ℕ, ◌<◌, true, List, length, slice_index}
 use Rattle.groups.specs.declared.items.Item.{Item}
-use Rattle.groups.specs.declared.items.Sign.{Sign}
 use Rattle.groups.specs.Items.{sign_at, covers}
 use Rattle.meaning.specs.Frames.{group_over}
 use Rattle.meaning.specs.Laws.{read_off}
 use Rattle.placed.specs.declared.Placed.{Placed}
-use Rattle.placed.specs.Signs.{Within, has_upper, has_lower}
+use Rattle.placed.specs.declared.End.{End}
+use Rattle.placed.specs.Signs.{Within, has_end}
 use Rattle.placed.specs.Spelling.{spell}
 use Rattle.rows.specs.Rows.{spell_all}
 use Rattle.telling.specs.Told.{Holds}
 
 -- an end of the group on a plate can't go: each group that covers it, and that the table tells of, has the end too
-abbrev pub FirmAt : List ℕ → List (List Item) → List Item → (Option Sign → Bool) → ℕ → List Item → Type 0
-FirmAt ps t l has p h = (x : List Item) → group_over ps x ≡ true → covers x h ≡ true → read_off t l x ≡ true → has (sign_at h p) ≡ true → has (sign_at x p) ≡ true
+abbrev pub FirmAt : List ℕ → List (List Item) → List Item → End → ℕ → List Item → Type 0
+FirmAt ps t l e p h = (x : List Item) → group_over ps x ≡ true → covers x h ≡ true → read_off t l x ≡ true → has_end e (sign_at h p) ≡ true → has_end e (sign_at x p) ≡ true
 
--- neither end of the group can go at a place below k
+-- no end of the group can go at a place below k
 abbrev pub FirmBelow : List ℕ → List (List Item) → List Item → ℕ → List Item → Type 0
-FirmBelow ps t l k h = (j : ℕ) → j < k → FirmAt ps t l has_upper (slice_index ps j) h × FirmAt ps t l has_lower (slice_index ps j) h
+FirmBelow ps t l k h = (j : ℕ) → j < k → (e : End) → FirmAt ps t l e (slice_index ps j) h
 
 -- r covers g, and the table tells of it too
 pub record Shorter (ps : List ℕ) (t : List (List Item)) (l : List Item) (g r : Placed) : Type 0 where
@@ -29,20 +29,15 @@ pub record Shorter (ps : List ℕ) (t : List (List Item)) (l : List Item) (g r :
 abbrev pub WhereTold : List Placed → Placed → ℕ → Placed → (List ℕ → List (List Item) → List Item → Type 0) → Type 0
 WhereTold table line places g P = (ps : List ℕ) → Holds ps table → length ps ≡ places → Within (length ps) g → read_off (spell_all ps table) (spell ps line) (spell ps g) ≡ true → P ps (spell_all ps table) (spell ps line)
 
--- r is the smaller group if the table tells of it, else the group
-abbrev pub TriedOver : List Placed → Placed → ℕ → Placed → Placed → Placed → Type 0
-TriedOver table line places g less r = (ps : List ℕ) → Holds ps table → length ps ≡ places → r ≡ cond (read_off (spell_all ps table) (spell ps line) (spell ps less)) less g
-
 -- r is shorter, and an end of it at the place can't go
-pub record EndTried (has : Option Sign → Bool) (place : ℕ) (g r : Placed) (ps : List ℕ) (t : List (List Item)) (l : List Item) : Type 0 where
+pub record EndTried (e : End) (place : ℕ) (g r : Placed) (ps : List ℕ) (t : List (List Item)) (l : List Item) : Type 0 where
   pub shorter : Shorter ps t l g r
-  pub firm : FirmAt ps t l has (slice_index ps place) (spell ps r)
+  pub firm : FirmAt ps t l e (slice_index ps place) (spell ps r)
 
--- r is shorter, and neither end of it at the place can go
+-- r is shorter, and no end of it at the place can go
 pub record PlaceTried (place : ℕ) (g r : Placed) (ps : List ℕ) (t : List (List Item)) (l : List Item) : Type 0 where
   pub shorter : Shorter ps t l g r
-  pub upper : FirmAt ps t l has_upper (slice_index ps place) (spell ps r)
-  pub lower : FirmAt ps t l has_lower (slice_index ps place) (spell ps r)
+  pub firm : (e : End) → FirmAt ps t l e (slice_index ps place) (spell ps r)
 
 -- r is shorter, and no end of it can go
 pub record Shortened (g r : Placed) (ps : List ℕ) (t : List (List Item)) (l : List Item) : Type 0 where

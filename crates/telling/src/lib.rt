@@ -9,9 +9,17 @@ ghost use Rattle.telling.specs.Gaps.{gap_of};
 use groups::items::Sign;
 use placed::Placed;
 
-pub mod shortening;
+mod shortening;
 
-// What a group leaves open of a line's sign for a lever.
+// The table of the lines so far, and one more line, over levers with places below `places`.
+#[derive(Clone, Copy)]
+pub struct OneMore<'a> {
+    pub table: &'a [Placed],
+    pub line: Placed,
+    pub places: usize,
+}
+
+// What a group leaves open of a line's sign for a lever: three cases, so no Option or Result.
 #[derive(Clone, Copy)]
 enum Gap {
     Filled,
@@ -26,46 +34,39 @@ pub fn covered(table: &[Placed], group: Placed) -> bool
     any_covers(table, group)
 }
 
-// Whether a group is forbidden with one more line, of which the places go up to `places`: one of the table covers the
-// group, or no setting that shows it gets by on an item of the line.
-pub fn tells(table: &[Placed], line: Placed, places: usize, group: Placed) -> bool
-    ensures { ReadOver table.now line places group result }
-{
-    covered(table, group) || all_settled(table, line, places, group)
-}
-
-// Whether one of the groups covers a group, one after the other.
+// Whether one of the groups covers a group, one after the other. Tried in place of `covered`: the chain needs an answer, and a
+// wrong group in it is then refused in the proof and not here.
 fn any_covers(table: &[Placed], group: Placed) -> bool
     ensures { CoveredOver table.now group result }
 {
-    for other in table {
-        if other.covers(group) {
-            return true;
-        }
-    }
-    false
+    table.iter().any(|other| other.covers(group))
 }
 
-// Whether no setting that shows the group gets by on any item of the line.
-fn all_settled(table: &[Placed], line: Placed, places: usize, group: Placed) -> bool
-    ensures { AllSettledOver table.now line places group result }
-{
-    for place in 0..places {
-        if !settled(table, line, group, place) {
-            return false;
-        }
+impl OneMore<'_> {
+    // Whether a group is forbidden with the line: one of the table covers the group, or no setting that shows it gets by on an
+    // item of the line.
+    pub fn tells(&self, group: Placed) -> bool
+        ensures { ReadOver self.now.table.now self.now.line self.now.places group result }
+    {
+        covered(self.table, group) || self.all_settled(group)
     }
-    true
-}
 
-// Whether no setting that shows the group gets by on the line's item at a place.
-fn settled(table: &[Placed], line: Placed, group: Placed, place: usize) -> bool
-    ensures { SettledOver table.now line group place result }
-{
-    match left_open(line.sign(place), group.sign(place)) {
-        Gap::Filled => true,
-        Gap::Opposite(sign) => covered(table, group.with(place, sign)),
-        Gap::Open => false,
+    // Whether no setting that shows the group gets by on any item of the line.
+    fn all_settled(&self, group: Placed) -> bool
+        ensures { AllSettledOver self.now.table.now self.now.line self.now.places group result }
+    {
+        (0..self.places).all(|place| self.settled(group, place))
+    }
+
+    // Whether no setting that shows the group gets by on the line's item at a place.
+    fn settled(&self, group: Placed, place: usize) -> bool
+        ensures { SettledOver self.now.table.now self.now.line group place result }
+    {
+        match left_open(self.line.sign(place), group.sign(place)) {
+            Gap::Filled => true,
+            Gap::Opposite(sign) => covered(self.table, group.with(place, sign)),
+            Gap::Open => false,
+        }
     }
 }
 

@@ -22,8 +22,14 @@ fn halves_of(group: Placed) -> [u32; 2] {
 }
 
 // The number whose digit k is 1 where the lever at place k has an end.
-fn number_of(has_end: impl Fn(usize) -> bool) -> u32 {
-    (0..MOST_LEVERS)
-        .filter(|place| has_end(*place))
-        .fold(0, |number, place| number | 1 << place)
+fn number_of<F: Fn(usize) -> bool>(has_end: F) -> u32
+    requires { F.IsAlwaysCallable has_end }
+{
+    let mut number = 0;
+    for place in 0..MOST_LEVERS {
+        if has_end(place) {
+            number |= 1 << place;
+        }
+    }
+    number
 }

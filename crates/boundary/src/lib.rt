@@ -10,32 +10,26 @@ ghost use Rattle.std.specs.Prelude.{length, ◌<◌};
 ghost use Rattle.frames.specs.Fitted.{fitted};
 ghost use Rattle.rows.specs.Rows.{groups_of, AllWithin};
 
-use self::reading::{line_at, plates_up_to};
+use self::reading::{crew_of, line_of, plates_up_to};
+use self::refused::Refused;
 use self::writing::write_groups;
+use crews::any::AnyCrew;
 use crews::crew::Crew;
-use crews::free::Free;
-use crews::hands::Hands;
-use crews::split::Split;
 use cutting::{MOST_LINES, cut_list};
 use frames::plates::Plates;
-use growing::{Stop, grow};
+use groups::group::Group;
+use growing::grow;
 use rows::row::Row;
 
 mod reading;
+mod refused;
 mod writing;
 
 // The bytes of one line.
 const LINE_BYTES: usize = 16;
 
-// What became of a line: it is in force, or no setting would be possible, or the table would have too many groups, or a
-// plate is not fitted.
+// What became of a line that is in force.
 const ENTERED: u8 = 0;
-
-const NOTHING_POSSIBLE: u8 = 1;
-
-const TOO_MANY: u8 = 2;
-
-const NOT_FITTED: u8 = 3;
 
 // Enters the lines one after the other, and writes what became of each, and the groups of the table. How many groups the
 // table has.
@@ -49,10 +43,11 @@ pub extern "C" fn boundary_table(
     groups: &mut [u8],
 ) -> usize {
     let plates = plates_up_to(levers);
-    let table = match kind {
-        0 => enter_all(&Free, &plates, lines, answers),
-        1 => enter_all(&Hands::new(number), &plates, lines, answers),
-        _ => enter_all(&Split::new(number), &plates, lines, answers),
+    // One engine for each crew: with one that takes any crew, a table takes a sixth more time.
+    let table = match crew_of(kind, number) {
+        AnyCrew::Free(crew) => enter_all(&crew, &plates, lines, answers),
+        AnyCrew::Hands(crew) => enter_all(&crew, &plates, lines, answers),
+        AnyCrew::Split(crew) => enter_all(&crew, &plates, lines, answers),
     };
     write_groups(table.all(), groups);
     table.all().len()
@@ -69,63 +64,46 @@ pub extern "C" fn boundary_cut(
 ) -> usize {
     let plates = plates_up_to(levers);
     let row = read_all(&plates, lines);
-    let list = match kind {
-        0 => cut_list(&Free, &plates, &row),
-        1 => cut_list(&Hands::new(number), &plates, &row),
-        _ => cut_list(&Split::new(number), &plates, &row),
-    };
+    let list = cut_list(&crew_of(kind, number), &plates, &row);
     write_groups(list.all(), groups);
     list.all().len()
 }
 
-// The table of the lines, entered one after the other; a line that is refused is left out.
+// The table of the lines, entered one after the other; a line that is refused is left out. What became of each is written
+// where it has a place.
 fn enter_all<C: Crew>(crew: &C, plates: &Plates, lines: &[u8], answers: &mut [u8]) -> Row<512> {
     let mut table = Row::new();
-    for at in 0..MOST_LINES {
-        if at * LINE_BYTES < lines.len() {
-            let answer = enter(crew, plates, &mut table, lines, at);
-            if at < answers.len() {
-                answers[at] = answer;
-            }
+    let mut answers = answers.iter_mut();
+    for bytes in lines.chunks(LINE_BYTES).take(MOST_LINES) {
+        let entered = enter(crew, plates, &mut table, &line_of(bytes));
+        if let Some(answer) = answers.next() {
+            *answer = entered.err().map_or(ENTERED, u8::from);
         }
     }
     table
 }
 
-// Enters one line. What became of it.
-fn enter<C: Crew>(crew: &C, plates: &Plates, table: &mut Row<512>, lines: &[u8], at: usize) -> u8
-    requires within { AllWithin (length (fitted plates.now)) (groups_of table.old) }
-    requires few { at < 128 }
+// Enters one line.
+fn enter<C: Crew>(
+    crew: &C,
+    plates: &Plates,
+    table: &mut Row<512>,
+    line: &Group,
+) -> Result<(), Refused>
+    requires { AllWithin (length (fitted plates.now)) (groups_of table.old) }
     ensures { AllWithin (length (fitted plates.now)) (groups_of table.new) }
 {
-    match plates.place(&line_at(lines, at)) {
-        Err(_) => NOT_FITTED,
-        Ok(line) => match grow(crew, plates, table, line) {
-            Err(stop) => refusal(stop),
-            Ok(grown) => {
-                *table = grown;
-                ENTERED
-            }
-        },
-    }
-}
-
-// What became of a line that there is no table with.
-fn refusal(stop: Stop) -> u8 {
-    match stop {
-        Stop::NothingPossible => NOTHING_POSSIBLE,
-        Stop::TooMany => TOO_MANY,
-    }
+    let line = plates.place(line)?;
+    *table = grow(crew, plates, table, line)?;
+    Ok(())
 }
 
 // The lines whose plates are fitted.
 fn read_all(plates: &Plates, lines: &[u8]) -> Row<128> {
     let mut row = Row::new();
-    for at in 0..MOST_LINES {
-        if at * LINE_BYTES < lines.len() {
-            if let Ok(line) = plates.place(&line_at(lines, at)) {
-                let _ = row.push(line);
-            }
+    for bytes in lines.chunks(LINE_BYTES).take(MOST_LINES) {
+        if let Ok(line) = plates.place(&line_of(bytes)) {
+            let _ = row.push(line);
         }
     }
     row

@@ -1,40 +1,39 @@
-// Reading plates and lines from what C passes.
-ghost use Rattle.std.specs.Prelude.{◌<◌};
-
-use super::LINE_BYTES;
+// Reading plates, a crew and lines from what C passes.
+use crews::any::AnyCrew;
+use crews::free::Free;
+use crews::hands::Hands;
+use crews::split::Split;
 use frames::methods::MOST_LEVERS;
 use frames::plates::Plates;
 use groups::group::Group;
 use groups::items::{Item, Sign};
 
-// The most items of a line.
-const LINE_ITEMS: usize = 8;
-
 // The plates from 1 up to a number, at most 32 of them.
 pub(super) fn plates_up_to(levers: u32) -> Plates {
     let mut plates = Plates::new();
-    let mut plate: u32 = 1;
-    for _ in 0..MOST_LEVERS {
-        if plate <= levers {
-            let _ = plates.fit(plate);
-            plate = plate.saturating_add(1);
-        }
+    for plate in 1..=levers.min(MOST_LEVERS as u32) {
+        let _ = plates.fit(plate);
     }
     plates
 }
 
-// The line that begins at a place of the bytes, counted in lines. Bytes that are missing are no items.
-pub(super) fn line_at(lines: &[u8], at: usize) -> Group
-    requires { at < 128 }
-{
+// The crew of a kind, 0 free, 1 hands, else split, and of its number.
+pub(super) fn crew_of(kind: u32, number: u32) -> AnyCrew {
+    match kind {
+        0 => AnyCrew::Free(Free),
+        1 => AnyCrew::Hands(Hands::new(number)),
+        _ => AnyCrew::Split(Split::new(number)),
+    }
+}
+
+// The line of some bytes, two for each item. A byte that is left over is no item.
+pub(super) fn line_of(bytes: &[u8]) -> Group {
     let mut group = Group::new();
-    for item in 0..LINE_ITEMS {
-        let first = at * LINE_BYTES + item * 2;
-        if first + 1 < lines.len() {
-            let plate = lines[first] as u32;
-            let sign = sign_of(lines[first + 1]);
-            let _ = group.insert(Item { plate, sign });
-        }
+    let (items, _) = bytes.as_chunks::<2>();
+    for [plate, sign] in items {
+        let plate = u32::from(*plate);
+        let sign = sign_of(*sign);
+        let _ = group.insert(Item { plate, sign });
     }
     group
 }

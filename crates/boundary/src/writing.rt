@@ -2,47 +2,29 @@
 use frames::methods::MOST_LEVERS;
 use placed::{End, Placed};
 
-// The bytes of one group.
-const GROUP_BYTES: usize = 8;
+// The bytes of one half of a group: its upper or its lower ends.
+const HALF_BYTES: usize = 4;
 
-// Writes each group as its upper and its lower ends, as many as fit.
+// Writes each group as its upper and its lower ends, as many halves as fit.
 pub(super) fn write_groups(groups: &[Placed], out: &mut [u8]) {
-    let mut at: usize = 0;
-    for group in groups {
-        write_number(upper_ends(*group), out, at);
-        write_number(lower_ends(*group), out, at.saturating_add(4));
-        at = at.saturating_add(GROUP_BYTES);
+    let halves = groups.iter().flat_map(|group| halves_of(*group));
+    for (half, bytes) in halves.zip(out.chunks_exact_mut(HALF_BYTES)) {
+        bytes.copy_from_slice(&half.to_le_bytes());
     }
 }
 
-// Writes a number from a place on, the lowest byte first, if there is room.
-fn write_number(number: u32, out: &mut [u8], at: usize) {
-    if out.len() >= 4 && at <= out.len() - 4 {
-        out[at] = (number & 255) as u8;
-        out[at + 1] = (number >> 8 & 255) as u8;
-        out[at + 2] = (number >> 16 & 255) as u8;
-        out[at + 3] = (number >> 24 & 255) as u8;
-    }
+// The upper and the lower ends of a group.
+fn halves_of(group: Placed) -> [u32; 2] {
+    [number_of(group, End::Upper), number_of(group, End::Lower)]
 }
 
-// The upper ends of a group: digit k for the lever at place k.
-fn upper_ends(group: Placed) -> u32 {
-    let mut ends = 0;
+// The number whose digit k is 1 where the group has an end of the lever at place k.
+fn number_of(group: Placed, end: End) -> u32 {
+    let mut number = 0;
     for place in 0..MOST_LEVERS {
-        if group.has_end(place, End::Upper) {
-            ends |= 1 << place;
+        if group.has_end(place, end) {
+            number |= 1 << place;
         }
     }
-    ends
-}
-
-// The lower ends of a group: digit k for the lever at place k.
-fn lower_ends(group: Placed) -> u32 {
-    let mut ends = 0;
-    for place in 0..MOST_LEVERS {
-        if group.has_end(place, End::Lower) {
-            ends |= 1 << place;
-        }
-    }
-    ends
+    number
 }

@@ -2,6 +2,7 @@
 // meaning/specs/Crews.antt says what a crew is, which laws it keeps, and what the three admit; read it first.
 #![tactic(auto)]
 
+pub mod any;
 mod counting;
 pub mod crew;
 pub mod free;

@@ -1,8 +1,9 @@
 // Drawn frames through the engine and through the trial, and whether the two agree.
+use super::agreeing::agree;
 use super::drawing::Drawn;
 use super::running::{Outcome, frame_of, run_lines};
 use super::signs::{Mark, Marks};
-use super::trial::{Listing, Trial, try_all};
+use super::trial::{Listing, Trial, list, try_all};
 use crews::crew::Crew;
 use frames::plates::Plates;
 use groups::group::Group;
@@ -10,11 +11,12 @@ use groups::items::{Item, Sign};
 use growing::Stop;
 use placed::Placed;
 use std::alloc::{AllocError, Global};
+use std::fmt;
 
 // How many frames were compared, on how many of them engine and trial agree, and of the trial how many lines were in force,
 // how many groups the tables have, how many lines the cut lists have, and how many frames a line ended that would have left
 // no possible setting.
-#[derive(Clone, Copy)]
+#[derive(Clone, Copy, Default)]
 pub struct Tally {
     pub frames: usize,
     pub agreed: usize,
@@ -25,18 +27,6 @@ pub struct Tally {
 }
 
 impl Tally {
-    // Nothing compared.
-    pub fn new() -> Tally {
-        Tally {
-            frames: 0,
-            agreed: 0,
-            lines: 0,
-            groups: 0,
-            cut: 0,
-            ended: 0,
-        }
-    }
-
     // Counts one more frame.
     fn count(&mut self, trial: &Trial, agreed: bool) {
         self.frames = self.frames.saturating_add(1);
@@ -45,6 +35,43 @@ impl Tally {
         self.groups = self.groups.saturating_add(trial.table.len());
         self.cut = self.cut.saturating_add(trial.cut.len());
         self.ended = self.ended.saturating_add(usize::from(trial.ended));
+    }
+}
+
+impl fmt::Display for Tally {
+    fn fmt<W: fmt::Write>(&self, f: &mut fmt::Formatter<W>) -> fmt::Result {
+        let frames = self.frames;
+        let agreed = self.agreed;
+        let lines = self.lines;
+        let groups = self.groups;
+        let cut = self.cut;
+        let ended = self.ended;
+        write!(
+            f,
+            "{agreed} of {frames} frames agree; {lines} lines, {groups} groups, {cut} lines on cut lists, {ended} frames ended early"
+        )
+    }
+}
+
+// The engine's sign.
+impl From<Mark> for Sign {
+    fn from(mark: Mark) -> Sign {
+        match mark {
+            Mark::Plus => Sign::Plus,
+            Mark::Minus => Sign::Minus,
+            Mark::Star => Sign::Star,
+        }
+    }
+}
+
+// The trial's sign.
+impl From<Sign> for Mark {
+    fn from(sign: Sign) -> Mark {
+        match sign {
+            Sign::Plus => Mark::Plus,
+            Sign::Minus => Mark::Minus,
+            Sign::Star => Mark::Star,
+        }
     }
 }
 
@@ -58,20 +85,19 @@ pub fn compare<C: Crew>(
     let plates = frame.plates.as_slice();
     let trial = try_all(heap, crew, plates, frame.lines.as_slice())?;
     let groups = spell_all(heap, plates, frame.lines.as_slice())?;
-    let agreed = match frame_of(plates) {
-        Some(fitted) => runs_like(crew, &fitted, groups.as_slice(), &trial),
-        None => false,
-    };
+    let agreed = frame_of(plates).is_some_and(|fitted| runs_like(
+        crew,
+        &fitted,
+        groups.as_slice(),
+        &trial,
+    ));
     tally.count(&trial, agreed);
     Ok(())
 }
 
 // Whether the engine makes of the lines what the trial does.
 fn runs_like<C: Crew>(crew: &C, plates: &Plates, groups: &[Group], trial: &Trial) -> bool {
-    match run_lines(crew, plates, groups) {
-        Ok(outcome) => agrees(plates, &outcome, trial),
-        Err(_) => false,
-    }
+    run_lines(crew, plates, groups).is_ok_and(|outcome| agrees(plates, &outcome, trial))
 }
 
 // Whether both have the same lines in force, the same table and the same cut list.
@@ -93,66 +119,34 @@ fn ends_alike(stop: Option<Stop>, ended: bool) -> bool {
 
 // Whether the groups are those of the listings, one by one.
 fn are_listed(plates: &Plates, groups: &[Placed], listings: &[Listing]) -> bool {
-    if groups.len() != listings.len() {
-        return false;
-    }
-    for (group, listing) in groups.iter().zip(listings.iter()) {
-        if !is_listed(plates.spell(*group).items(), listing) {
-            return false;
-        }
-    }
-    true
+    agree(groups, listings, |group, listing| {
+        is_listed(plates.spell(*group).items(), listing.as_slice())
+    })
 }
 
 // Whether the items are those of a listing, one by one.
-fn is_listed(items: &[Item], listing: &Listing) -> bool {
-    if items.len() != listing.count {
-        return false;
-    }
-    for (item, (plate, mark)) in items.iter().zip(listing.items.iter()) {
-        if item.plate != *plate || mark_of(item.sign) != *mark {
-            return false;
-        }
-    }
-    true
+fn is_listed(items: &[Item], listing: &[(u32, Mark)]) -> bool {
+    agree(items, listing, |item, (plate, mark)| {
+        item.plate == *plate && Mark::from(item.sign) == *mark
+    })
 }
 
 // The groups of the lines.
 fn spell_all(heap: Global, plates: &[u32], lines: &[Marks]) -> Result<Vec<Group>, AllocError> {
     let mut groups = Vec::new(heap);
     for line in lines {
-        groups.push(spell(plates, line))?;
+        groups.push(spell(list(heap, plates, line)?.as_slice()))?;
     }
     Ok(groups)
 }
 
-// The group of a line, by the plates of the levers.
-fn spell(plates: &[u32], line: &Marks) -> Group {
+// The group of some items.
+fn spell(listing: &[(u32, Mark)]) -> Group {
     let mut group = Group::new();
-    for (plate, mark) in plates.iter().zip(line.marks.iter()) {
-        if let Some(mark) = mark {
-            let plate = *plate;
-            let sign = sign_of(*mark);
-            let _ = group.insert(Item { plate, sign });
-        }
+    for (plate, mark) in listing {
+        let plate = *plate;
+        let sign = Sign::from(*mark);
+        let _ = group.insert(Item { plate, sign });
     }
     group
-}
-
-// The engine's sign.
-fn sign_of(mark: Mark) -> Sign {
-    match mark {
-        Mark::Plus => Sign::Plus,
-        Mark::Minus => Sign::Minus,
-        Mark::Star => Sign::Star,
-    }
-}
-
-// The trial's sign.
-fn mark_of(sign: Sign) -> Mark {
-    match sign {
-        Sign::Plus => Mark::Plus,
-        Sign::Minus => Mark::Minus,
-        Sign::Star => Mark::Star,
-    }
 }

@@ -11,8 +11,17 @@ pub struct Drawn {
     pub parted: u32,
 }
 
+// Draws so many frames.
+pub fn draw_all(heap: Global, lottery: &mut Lottery, count: u32) -> Result<Vec<Drawn>, AllocError> {
+    let mut frames = Vec::new(heap);
+    for _ in 0..count {
+        frames.push(draw(heap, lottery)?)?;
+    }
+    Ok(frames)
+}
+
 // Draws a frame.
-pub fn draw(heap: Global, lottery: &mut Lottery) -> Result<Drawn, AllocError> {
+fn draw(heap: Global, lottery: &mut Lottery) -> Result<Drawn, AllocError> {
     let levers = lottery.below(5).saturating_add(2);
     let plates = draw_plates(heap, lottery, levers)?;
     let place = lottery.below(levers);
@@ -44,7 +53,7 @@ fn draw_line(lottery: &mut Lottery, levers: u32) -> Marks {
     let mut line = Marks::empty();
     for _ in 0..=lottery.below(4) {
         let place = lottery.below(levers) as usize;
-        line.put(place, draw_mark(lottery));
+        line = line.with(place, draw_mark(lottery));
     }
     line
 }

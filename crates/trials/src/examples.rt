@@ -1,5 +1,7 @@
 // Worked examples, as texts, and what the engine makes of them.
+use super::agreeing::agree;
 use super::running::{Outcome, frame_of_groups, run_lines};
+use crews::any::AnyCrew;
 use crews::crew::Crew;
 use crews::free::Free;
 use crews::hands::Hands;
@@ -12,52 +14,8 @@ use placed::Placed;
 use reading::reader::read_group;
 use std::alloc::{AllocError, Global};
 
-// The crew of an example: any levers can be between together, or so many.
-#[derive(Clone, Copy)]
-enum Who {
-    Anyone,
-    Hands(u32),
-}
-
 // Lines, a crew, and their table.
-const SMALL: [(&[&str], Who, &[&str]); 10] = [
-    (&[], Who::Anyone, &[]),
-    (&["(5+ 6-)", "(5- 6-)"], Who::Anyone, &["(6-)"]),
-    (
-        &["(5+ 6+)", "(5- 6-)"],
-        Who::Anyone,
-        &["(5*)", "(6*)", "(5+ 6+)", "(5- 6-)"],
-    ),
-    (
-        &["(5+ 6+)", "(5- 6-)"],
-        Who::Hands(0),
-        &["(5+ 6+)", "(5- 6-)"],
-    ),
-    (&["(5+ 6*)", "(5- 6-)"], Who::Anyone, &["(6*)", "(5- 6-)"]),
-    (
-        &["(5+ 6+ 7-)", "(5- 6- 8-)"],
-        Who::Anyone,
-        &["(5+ 6+ 7-)", "(5- 6- 8-)", "(5* 7- 8-)", "(6* 7- 8-)"],
-    ),
-    (
-        &["(5+ 6+ 7+)", "(5- 6- 7-)"],
-        Who::Anyone,
-        &["(5* 6*)", "(5* 7*)", "(6* 7*)", "(5+ 6+ 7+)", "(5- 6- 7-)"],
-    ),
-    (
-        &["(5+ 6+ 7+)", "(5- 6- 7-)"],
-        Who::Hands(1),
-        &["(5+ 6+ 7+)", "(5- 6- 7-)"],
-    ),
-    (
-        &["(5+ 6-)", "(6+ 7-)", "(7+ 8-)"],
-        Who::Anyone,
-        &[
-            "(5+ 6-)", "(5+ 7-)", "(5+ 8-)", "(6+ 7-)", "(6+ 8-)", "(7+ 8-)",
-        ],
-    ),
-    (&["(5+)", "(5-)"], Who::Anyone, &["()"]),
-];
+type Small = (&'static [&'static str], AnyCrew, &'static [&'static str]);
 
 // Lines of which the last is not on the cut list. Either of the last two can be left out, but not both.
 const EITHER: [&str; 4] = ["(6+ 7-)", "(6- 7+)", "(5- 6-)", "(5- 7-)"];
@@ -74,122 +32,134 @@ const SEVEN: [&str; 8] = [
     "(7- 24- 30-)",
 ];
 
-// A frame, and lines for it.
-#[derive(Drop)]
-struct Framed {
+// The plates that lines name, and what the engine makes of the lines.
+#[derive(Clone, Copy)]
+struct Ran {
     plates: Plates,
-    lines: Vec<Group>,
+    outcome: Outcome,
+}
+
+impl Ran {
+    // Whether this is the table. Where nothing would be possible, it is the one group of no items.
+    fn has_table(&self, table: &[&str]) -> bool {
+        match self.outcome.stop {
+            None => are_spelled(&self.plates, self.outcome.table.all(), table),
+            Some(Stop::NothingPossible) => are_spelled(&self.plates, &[Placed::empty()], table),
+            Some(Stop::TooMany) => false,
+        }
+    }
+
+    // Whether this is the cut list.
+    fn has_cut_list(&self, lines: &[&str]) -> bool {
+        are_spelled(&self.plates, self.outcome.cut.all(), lines)
+    }
+
+    // How many groups the table has, if this is one of them.
+    fn groups_with(&self, text: &str) -> Option<usize> {
+        let groups = self.outcome.table.all();
+        let found = groups
+            .iter()
+            .any(|group| is_spelled(&self.plates, *group, text));
+        found.then_some(groups.len())
+    }
+}
+
+// The small frames. Any levers can be between together, or no more than a crew has hands.
+fn small() -> [Small; 10] {
+    let free = AnyCrew::Free(Free);
+    let none = AnyCrew::Hands(Hands::new(0));
+    let one = AnyCrew::Hands(Hands::new(1));
+    [
+        (&[], free, &[]),
+        (&["(5+ 6-)", "(5- 6-)"], free, &["(6-)"]),
+        (
+            &["(5+ 6+)", "(5- 6-)"],
+            free,
+            &["(5*)", "(6*)", "(5+ 6+)", "(5- 6-)"],
+        ),
+        (&["(5+ 6+)", "(5- 6-)"], none, &["(5+ 6+)", "(5- 6-)"]),
+        (&["(5+ 6*)", "(5- 6-)"], free, &["(6*)", "(5- 6-)"]),
+        (
+            &["(5+ 6+ 7-)", "(5- 6- 8-)"],
+            free,
+            &["(5+ 6+ 7-)", "(5- 6- 8-)", "(5* 7- 8-)", "(6* 7- 8-)"],
+        ),
+        (
+            &["(5+ 6+ 7+)", "(5- 6- 7-)"],
+            free,
+            &["(5* 6*)", "(5* 7*)", "(6* 7*)", "(5+ 6+ 7+)", "(5- 6- 7-)"],
+        ),
+        (
+            &["(5+ 6+ 7+)", "(5- 6- 7-)"],
+            one,
+            &["(5+ 6+ 7+)", "(5- 6- 7-)"],
+        ),
+        (
+            &["(5+ 6-)", "(6+ 7-)", "(7+ 8-)"],
+            free,
+            &[
+                "(5+ 6-)", "(5+ 7-)", "(5+ 8-)", "(6+ 7-)", "(6+ 8-)", "(7+ 8-)",
+            ],
+        ),
+        (&["(5+)", "(5-)"], free, &["()"]),
+    ]
 }
 
 // How many small frames have the tables that they should have.
 pub fn small_frames(heap: Global) -> Result<usize, AllocError> {
     let mut count: usize = 0;
-    for (lines, who, table) in SMALL {
-        if is_small(heap, lines, who, table)? {
-            count = count.saturating_add(1);
-        }
+    for (lines, crew, table) in small() {
+        let ran = run_texts(heap, &crew, lines)?;
+        let right = ran.is_some_and(|ran| ran.has_table(table));
+        count = count.saturating_add(usize::from(right));
     }
     Ok(count)
 }
 
-// Whether the lines have this table with this crew.
-fn is_small(heap: Global, lines: &[&str], who: Who, table: &[&str]) -> Result<bool, AllocError> {
-    match who {
-        Who::Anyone => has_table(heap, &Free, lines, table),
-        Who::Hands(count) => has_table(heap, &Hands::new(count), lines, table),
-    }
-}
-
-// Whether the lines have this table. Where nothing would be possible, it is the one group of no items.
-fn has_table<C: Crew>(
-    heap: Global,
-    crew: &C,
-    lines: &[&str],
-    table: &[&str],
-) -> Result<bool, AllocError> {
-    let Some(frame) = read(heap, lines)? else {
-        return Ok(false);
-    };
-    let Ok(outcome) = run_lines(crew, &frame.plates, frame.lines.as_slice()) else {
-        return Ok(false);
-    };
-    Ok(match outcome.stop {
-        None => are_spelled(&frame.plates, outcome.table.all(), table),
-        Some(Stop::NothingPossible) => are_spelled(&frame.plates, &[Placed::empty()], table),
-        Some(Stop::TooMany) => false,
-    })
-}
-
 // Whether all but the last of four lines are their cut list.
 pub fn last_is_cut(heap: Global) -> Result<bool, AllocError> {
-    let Some(frame) = read(heap, &EITHER)? else {
-        return Ok(false);
-    };
-    let Ok(outcome) = run_lines(&Free, &frame.plates, frame.lines.as_slice()) else {
-        return Ok(false);
-    };
-    Ok(are_spelled(&frame.plates, outcome.cut.all(), &EITHER[0..3]))
+    let ran = run_texts(heap, &Free, &EITHER)?;
+    Ok(ran.is_some_and(|ran| ran.has_cut_list(&EITHER[0..3])))
 }
 
 // How many groups the table of the lines of seven levers has, if (7- 30-) is one of them.
 pub fn seven_levers(heap: Global) -> Result<Option<usize>, AllocError> {
-    let Some(frame) = read(heap, &SEVEN)? else {
-        return Ok(None);
-    };
-    let Ok(outcome) = run_lines(&Free, &frame.plates, frame.lines.as_slice()) else {
-        return Ok(None);
-    };
-    let table = outcome.table.all();
-    for group in table {
-        if is_spelled(&frame.plates, *group, "(7- 30-)") {
-            return Ok(Some(table.len()));
-        }
-    }
-    Ok(None)
+    let ran = run_texts(heap, &Free, &SEVEN)?;
+    Ok(ran.and_then(|ran| ran.groups_with("(7- 30-)")))
 }
 
 // What the engine makes of so many lines (1- a-), (2- b-) and (3- c-), each with a lever of its own, and then (1+ 2+ 3+).
 pub fn fan(heap: Global, counts: [u32; 3]) -> Result<Option<Outcome>, AllocError> {
-    let lines = fan_lines(heap, counts)?;
-    let Some(plates) = frame_of_groups(heap, lines.as_slice())? else {
-        return Ok(None);
-    };
-    Ok(run_lines(&Free, &plates, lines.as_slice()).ok())
+    let ran = run(heap, &Free, fan_lines(heap, counts)?.as_slice())?;
+    Ok(ran.map(|ran| ran.outcome))
 }
 
 // The lines of a fan.
 fn fan_lines(heap: Global, counts: [u32; 3]) -> Result<Vec<Group>, AllocError> {
+    const HUBS: [u32; 3] = [1, 2, 3];
     let mut lines = Vec::new(heap);
-    let mut last = Group::new();
-    let mut hub: u32 = 0;
-    let mut plate: u32 = 3;
-    for count in counts {
-        hub = hub.saturating_add(1);
-        add(&mut last, hub, Sign::Plus);
-        for _ in 0..count {
-            plate = plate.saturating_add(1);
-            lines.push(pair(hub, plate))?;
+    let mut plates = 4..=u32::MAX;
+    for (hub, count) in HUBS.iter().zip(counts.iter()) {
+        for plate in plates.by_ref().take(*count as usize) {
+            lines.push(group_of(&[*hub, plate], Sign::Minus))?;
         }
     }
-    lines.push(last)?;
+    lines.push(group_of(&HUBS, Sign::Plus))?;
     Ok(lines)
 }
 
-// The group of two plates, both with -.
-fn pair(a: u32, b: u32) -> Group {
+// The group of some plates, each with the same sign.
+fn group_of(plates: &[u32], sign: Sign) -> Group {
     let mut group = Group::new();
-    add(&mut group, a, Sign::Minus);
-    add(&mut group, b, Sign::Minus);
+    for plate in plates {
+        let plate = *plate;
+        let _ = group.insert(Item { plate, sign });
+    }
     group
 }
 
-// Adds an item to a group.
-fn add(group: &mut Group, plate: u32, sign: Sign) {
-    let _ = group.insert(Item { plate, sign });
-}
-
-// Reads lines, and fits the plates that they name. Nothing where a text is no group, or there is no frame for the plates.
-fn read(heap: Global, texts: &[&str]) -> Result<Option<Framed>, AllocError> {
+// Reads lines and runs them. Nothing where a text is no group, or the lines cannot be run.
+fn run_texts<C: Crew>(heap: Global, crew: &C, texts: &[&str]) -> Result<Option<Ran>, AllocError> {
     let mut lines = Vec::new(heap);
     for text in texts {
         let Ok(group) = read_group(text.as_bytes(), 0) else {
@@ -197,23 +167,23 @@ fn read(heap: Global, texts: &[&str]) -> Result<Option<Framed>, AllocError> {
         };
         lines.push(group)?;
     }
-    match frame_of_groups(heap, lines.as_slice())? {
-        Some(plates) => Ok(Some(Framed { plates, lines })),
-        None => Ok(None),
-    }
+    run(heap, crew, lines.as_slice())
+}
+
+// Fits the plates that lines name, and runs the lines. Nothing where there is no frame for the plates.
+fn run<C: Crew>(heap: Global, crew: &C, lines: &[Group]) -> Result<Option<Ran>, AllocError> {
+    let Some(plates) = frame_of_groups(heap, lines)? else {
+        return Ok(None);
+    };
+    let ran = run_lines(crew, &plates, lines).map(|outcome| Ran { plates, outcome });
+    Ok(ran.ok())
 }
 
 // Whether the groups are spelled by the texts, one by one.
 fn are_spelled(plates: &Plates, groups: &[Placed], texts: &[&str]) -> bool {
-    if groups.len() != texts.len() {
-        return false;
-    }
-    for (group, text) in groups.iter().zip(texts.iter()) {
-        if !is_spelled(plates, *group, text) {
-            return false;
-        }
-    }
-    true
+    agree(groups, texts, |group, text| {
+        is_spelled(plates, *group, text)
+    })
 }
 
 // Whether a group is spelled by a text.

@@ -2,6 +2,7 @@
 // what is known of them, and frames drawn by lot with a trial of all their settings.
 #![tactic(auto)]
 
+mod agreeing;
 mod comparing;
 mod drawing;
 mod examples;
@@ -9,19 +10,27 @@ mod lottery;
 mod running;
 mod signs;
 mod trial;
+mod tried;
 
 use comparing::{Tally, compare};
-use crews::free::Free;
-use crews::hands::Hands;
-use crews::split::Split;
-use drawing::draw;
+use drawing::draw_all;
 use growing::Stop;
 use lottery::Lottery;
 use running::Outcome;
 use std::io;
+use tried::Tried;
 
 // How many frames are drawn.
 const DRAWN: u32 = 120;
+
+// The crews that they are tried with.
+const CREWS: [Tried; 5] = [
+    Tried::Hands(0),
+    Tried::Hands(1),
+    Tried::Hands(2),
+    Tried::Split,
+    Tried::Free,
+];
 
 fn main(rt: HostRuntime) -> io::Result<()> {
     tell_examples(&rt)?;
@@ -62,36 +71,13 @@ fn tell_outcome(rt: &HostRuntime, outcome: Option<Outcome>) -> io::Result<()> {
 // Draws frames, and compares what engine and trial make of each with five crews.
 fn tell_drawn(rt: &HostRuntime) -> io::Result<()> {
     let heap = rt.alloc();
-    let mut lottery = Lottery::new();
-    let mut none = Tally::new();
-    let mut one = Tally::new();
-    let mut two = Tally::new();
-    let mut split = Tally::new();
-    let mut free = Tally::new();
-    for _ in 0..DRAWN {
-        let frame = draw(heap, &mut lottery)?;
-        compare(heap, &Hands::new(0), &frame, &mut none)?;
-        compare(heap, &Hands::new(1), &frame, &mut one)?;
-        compare(heap, &Hands::new(2), &frame, &mut two)?;
-        compare(heap, &Split::new(frame.parted), &frame, &mut split)?;
-        compare(heap, &Free, &frame, &mut free)?;
+    let frames = draw_all(heap, &mut Lottery::new(), DRAWN)?;
+    for crew in CREWS {
+        let mut tally = Tally::default();
+        for frame in &frames {
+            compare(heap, &crew.of_frame(frame), frame, &mut tally)?;
+        }
+        println!(rt; "{crew}: {tally}")?;
     }
-    tell_tally(rt, "hands, 0", none)?;
-    tell_tally(rt, "hands, 1", one)?;
-    tell_tally(rt, "hands, 2", two)?;
-    tell_tally(rt, "split", split)?;
-    tell_tally(rt, "free", free)
-}
-
-// Tells what was counted with a crew.
-fn tell_tally(rt: &HostRuntime, crew: &str, tally: Tally) -> io::Result<()> {
-    let frames = tally.frames;
-    let agreed = tally.agreed;
-    let lines = tally.lines;
-    let groups = tally.groups;
-    let cut = tally.cut;
-    let ended = tally.ended;
-    println!(rt;
-        "{crew}: {agreed} of {frames} frames agree; {lines} lines, {groups} groups, {cut} lines on cut lists, {ended} frames ended early"
-    )
+    Ok(())
 }

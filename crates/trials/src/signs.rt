@@ -1,4 +1,5 @@
 // Groups and settings of a small frame, lever by lever, in the words of the rules. The trial is written with these alone.
+use std::alloc::{AllocError, Global};
 
 // The most levers of a frame that is tried.
 pub const MOST_TRIED: usize = 6;
@@ -31,6 +32,17 @@ pub struct Setting {
     pub states: [State; MOST_TRIED],
 }
 
+impl Mark {
+    // Whether the sign holds for a lever in a state.
+    fn holds(self, state: State) -> bool {
+        match self {
+            Mark::Plus => matches!(state, State::Normal | State::Between),
+            Mark::Minus => matches!(state, State::Reversed | State::Between),
+            Mark::Star => state == State::Between,
+        }
+    }
+}
+
 impl Marks {
     // The group of no items.
     pub fn empty() -> Marks {
@@ -39,95 +51,81 @@ impl Marks {
         }
     }
 
-    // The group of a number, of which each digit to the base 4 has the sign of a lever.
-    pub fn of_number(number: u32) -> Marks {
-        let mut group = Marks::empty();
-        let mut rest = number;
-        for mark in group.marks.iter_mut() {
-            *mark = mark_of(rest % 4);
-            rest /= 4;
-        }
-        group
+    // Every group of so many levers.
+    pub fn every(heap: Global, levers: usize) -> Result<Vec<Marks>, AllocError> {
+        let signs = [Mark::Plus, Mark::Minus, Mark::Star];
+        every(heap, Marks::empty(), levers, &signs, Marks::with)
     }
 
-    // Gives the lever at a place a sign, whatever sign it had.
-    pub fn put(&mut self, place: usize, mark: Mark) {
+    // The group with the lever at a place given a sign, whatever sign it had.
+    pub fn with(mut self, place: usize, mark: Mark) -> Marks {
         if let Some(held) = self.marks.get_mut(place) {
             *held = Some(mark);
         }
+        self
     }
 
     // Whether each plate of this group is in the other, with the same sign or with *.
     pub fn covers(&self, other: &Marks) -> bool {
-        for (mark, there) in self.marks.iter().zip(other.marks.iter()) {
-            if mark.is_some() && *mark != *there && *there != Some(Mark::Star) {
-                return false;
-            }
-        }
-        true
+        self.marks.iter().zip(other.marks.iter()).all(|(mark, there)| mark.is_none()
+            || mark == there
+            || *there == Some(Mark::Star))
     }
 }
 
 impl Setting {
-    // The setting of a number, of which each digit to the base 3 has the state of a lever.
-    pub fn of_number(number: u32) -> Setting {
-        let mut setting = Setting {
+    // Every setting of so many levers.
+    pub fn every(heap: Global, levers: usize) -> Result<Vec<Setting>, AllocError> {
+        let normal = Setting {
             states: [State::Normal; MOST_TRIED],
         };
-        let mut rest = number;
-        for state in setting.states.iter_mut() {
-            *state = state_of(rest % 3);
-            rest /= 3;
+        let others = [State::Reversed, State::Between];
+        every(heap, normal, levers, &others, Setting::with)
+    }
+
+    // The setting with the lever at a place in a state.
+    fn with(mut self, place: usize, state: State) -> Setting {
+        if let Some(held) = self.states.get_mut(place) {
+            *held = state;
         }
-        setting
+        self
     }
 
     // Whether all signs of a group hold.
     pub fn shows(&self, group: &Marks) -> bool {
-        for (state, mark) in self.states.iter().zip(group.marks.iter()) {
-            if !holds(*mark, *state) {
-                return false;
-            }
-        }
-        true
+        self.states
+            .iter()
+            .zip(group.marks.iter())
+            .all(|(state, mark)| mark.is_none_or(|mark| mark.holds(*state)))
     }
 
     // Whether it shows one of some groups.
     pub fn shows_any(&self, groups: &[Marks]) -> bool {
-        for group in groups {
-            if self.shows(group) {
-                return true;
+        groups.iter().any(|group| self.shows(group))
+    }
+}
+
+// Every group or setting that comes of a first one, where at each of so many places it stays or gets one of some values.
+fn every<V: Copy, T: Copy, F: Fn(V, usize, T) -> V>(
+    heap: Global,
+    first: V,
+    places: usize,
+    values: &[T],
+    with: F,
+) -> Result<Vec<V>, AllocError>
+    requires { F.IsAlwaysCallable with }
+{
+    let mut all = Vec::new(heap);
+    all.push(first)?;
+    for place in 0..places {
+        let mut more = Vec::new(heap);
+        for one in &all {
+            more.push(*one)?;
+            for value in values {
+                more.push(with(*one, place, *value))?;
             }
         }
-        false
+        all = more;
     }
-}
-
-// Whether a sign, if there is one, holds for a lever in a state.
-fn holds(mark: Option<Mark>, state: State) -> bool {
-    match mark {
-        None => true,
-        Some(Mark::Plus) => state == State::Normal || state == State::Between,
-        Some(Mark::Minus) => state == State::Reversed || state == State::Between,
-        Some(Mark::Star) => state == State::Between,
-    }
-}
-
-// The sign of a digit, if it has one.
-pub fn mark_of(digit: u32) -> Option<Mark> {
-    match digit {
-        1 => Some(Mark::Plus),
-        2 => Some(Mark::Minus),
-        3 => Some(Mark::Star),
-        _ => None,
-    }
-}
-
-// The state of a digit.
-fn state_of(digit: u32) -> State {
-    match digit {
-        0 => State::Normal,
-        1 => State::Reversed,
-        _ => State::Between,
-    }
+    Ok(all)
 }

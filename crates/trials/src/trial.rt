@@ -1,22 +1,11 @@
 // The trial: the table and the cut list of a small frame by their definitions, from every group and every setting there is.
-use super::signs::{MOST_TRIED, Mark, Marks, Setting, State};
+use super::signs::{Mark, Marks, Setting, State};
 use crews::crew::Crew;
 use std::alloc::{AllocError, Global};
+use std::cmp::Ordering;
 
-// The items of a group, in rising plates. Listings are ordered as groups are in a table: by the number of items, and then
-// item by item, the lower plate first, and at equal plates by the sign. Places behind the items have the plate 0.
-#[derive(Clone, Copy, PartialEq, Eq, PartialOrd, Ord)]
-pub struct Listing {
-    pub count: usize,
-    pub items: [(u32, Mark); MOST_TRIED],
-}
-
-// A forbidden group, listed and lever by lever.
-#[derive(Clone, Copy)]
-struct Forbidden {
-    listing: Listing,
-    marks: Marks,
-}
+// The items of a group, in rising plates.
+pub type Listing = Vec<(u32, Mark)>;
 
 // What the trial makes of lines: the table and the cut list of the lines in force, how many these are, and whether they are
 // fewer than there were because the next line would leave no possible setting.
@@ -51,10 +40,10 @@ pub fn try_all<C: Crew>(
 // The settings that the crew admits.
 fn admitted<C: Crew>(heap: Global, crew: &C, plates: &[u32]) -> Result<Vec<Setting>, AllocError> {
     let mut settings = Vec::new(heap);
-    for number in 0..power(3, plates.len()) {
-        let setting = Setting::of_number(number);
-        if crew.admits(between(heap, plates, &setting)?.as_slice()) {
-            settings.push(setting)?;
+    for setting in &Setting::every(heap, plates.len())? {
+        let moving = plates_with(heap, plates, &setting.states, &State::Between)?;
+        if crew.admits(moving.as_slice()) {
+            settings.push(*setting)?;
         }
     }
     Ok(settings)
@@ -62,22 +51,16 @@ fn admitted<C: Crew>(heap: Global, crew: &C, plates: &[u32]) -> Result<Vec<Setti
 
 // The lines before the first that would leave none of the settings.
 fn in_force<'a>(settings: &[Setting], lines: &'a [Marks]) -> &'a [Marks] {
-    for at in 0..lines.len() {
-        if !leave_some(settings, &lines[0..at + 1]) {
-            return &lines[0..at];
-        }
+    let ends = (0..lines.len()).find(|at| !leave_some(settings, &lines[..at + 1]));
+    match ends {
+        Some(at) => &lines[..at],
+        None => lines,
     }
-    lines
 }
 
 // Whether one of the settings shows none of the lines.
 fn leave_some(settings: &[Setting], lines: &[Marks]) -> bool {
-    for setting in settings {
-        if !setting.shows_any(lines) {
-            return true;
-        }
-    }
-    false
+    settings.iter().any(|setting| !setting.shows_any(lines))
 }
 
 // Those of the settings that show none of the lines.
@@ -86,13 +69,11 @@ fn permitted(
     settings: &[Setting],
     lines: &[Marks],
 ) -> Result<Vec<Setting>, AllocError> {
-    let mut rest = Vec::new(heap);
-    for setting in settings {
-        if !setting.shows_any(lines) {
-            rest.push(*setting)?;
-        }
-    }
-    Ok(rest)
+    settings
+        .iter()
+        .filter(|setting| !setting.shows_any(lines))
+        .copied()
+        .collect(heap)
 }
 
 // The table, where these settings are the possible ones.
@@ -103,36 +84,43 @@ fn table<C: Crew>(
     possible: &[Setting],
 ) -> Result<Vec<Listing>, AllocError> {
     let mut forbidden = Vec::new(heap);
-    for number in 0..power(4, plates.len()) {
-        let marks = Marks::of_number(number);
-        if crew.admits(starred(heap, plates, &marks)?.as_slice()) && !shown(possible, &marks) {
-            let listing = list(plates, &marks);
-            forbidden.push(Forbidden { listing, marks })?;
+    for group in &Marks::every(heap, plates.len())? {
+        let stars = plates_with(heap, plates, &group.marks, &Some(Mark::Star))?;
+        if crew.admits(stars.as_slice()) && !shown(possible, group) {
+            forbidden.push(*group)?;
         }
     }
-    shortest(heap, forbidden.as_slice())
+    shortest(heap, plates, forbidden.as_slice())
+}
+
+// Whether one of the settings shows a group.
+fn shown(settings: &[Setting], group: &Marks) -> bool {
+    settings.iter().any(|setting| setting.shows(group))
 }
 
 // The listings of the groups that no other of them covers, in order.
-fn shortest(heap: Global, forbidden: &[Forbidden]) -> Result<Vec<Listing>, AllocError> {
+fn shortest(heap: Global, plates: &[u32], forbidden: &[Marks]) -> Result<Vec<Listing>, AllocError> {
     let mut table = Vec::new(heap);
     for group in forbidden {
-        if !covered_by_other(forbidden, &group.marks) {
-            table.push(group.listing)?;
+        if !covered_by_other(forbidden, group) {
+            table.push(list(heap, plates, group)?)?;
         }
     }
-    table.sort()?;
+    table.sort_by(in_table)?;
     Ok(table)
 }
 
 // Whether another of the groups covers a group.
-fn covered_by_other(forbidden: &[Forbidden], group: &Marks) -> bool {
-    for other in forbidden {
-        if other.marks != *group && other.marks.covers(group) {
-            return true;
-        }
-    }
-    false
+fn covered_by_other(forbidden: &[Marks], group: &Marks) -> bool {
+    forbidden
+        .iter()
+        .any(|other| other != group && other.covers(group))
+}
+
+// The order of groups in a table: by the number of items, and then item by item, the lower plate first, and at equal plates
+// by the sign.
+fn in_table(a: &Listing, b: &Listing) -> Ordering {
+    a.len().cmp(&b.len()).then_with(|| a.cmp(b))
 }
 
 // The cut list of lines, where the crew admits these settings: from the last line to the first, a line is left out if no
@@ -145,12 +133,13 @@ fn cut_list(
 ) -> Result<Vec<Listing>, AllocError> {
     let mut behind = Vec::new(heap);
     let mut cut = Vec::new(heap);
-    for at in (0..lines.len()).rev() {
-        let line = lines[at];
-        if is_needed(settings, &lines[0..at], behind.as_slice(), &line) {
-            behind.push(line)?;
-            cut.push(list(plates, &line))?;
+    let mut left = lines;
+    while let Some((line, before)) = left.split_last() {
+        if is_needed(settings, before, behind.as_slice(), line) {
+            behind.push(*line)?;
+            cut.push(list(heap, plates, line)?)?;
         }
+        left = before;
     }
     cut.reverse();
     Ok(cut)
@@ -158,71 +147,31 @@ fn cut_list(
 
 // Whether one of the settings shows a line, and no line before or behind it.
 fn is_needed(settings: &[Setting], before: &[Marks], behind: &[Marks], line: &Marks) -> bool {
-    for setting in settings {
-        if setting.shows(line) && !setting.shows_any(before) && !setting.shows_any(behind) {
-            return true;
-        }
-    }
-    false
+    settings.iter().any(|setting| {
+        setting.shows(line) && !setting.shows_any(before) && !setting.shows_any(behind)
+    })
 }
 
-// Whether one of the settings shows a group.
-fn shown(settings: &[Setting], group: &Marks) -> bool {
-    for setting in settings {
-        if setting.shows(group) {
-            return true;
-        }
-    }
-    false
-}
-
-// The plates of the levers that are between.
-fn between(heap: Global, plates: &[u32], setting: &Setting) -> Result<Vec<u32>, AllocError> {
-    let mut moving = Vec::new(heap);
-    for (plate, state) in plates.iter().zip(setting.states.iter()) {
-        if *state == State::Between {
-            moving.push(*plate)?;
-        }
-    }
-    Ok(moving)
-}
-
-// The plates of a group with *.
-fn starred(heap: Global, plates: &[u32], group: &Marks) -> Result<Vec<u32>, AllocError> {
-    let mut stars = Vec::new(heap);
-    for (plate, mark) in plates.iter().zip(group.marks.iter()) {
-        if *mark == Some(Mark::Star) {
-            stars.push(*plate)?;
-        }
-    }
-    Ok(stars)
+// The plates of the levers of which a group or a setting says this.
+fn plates_with<T: PartialEq>(
+    heap: Global,
+    plates: &[u32],
+    said: &[T],
+    this: &T,
+) -> Result<Vec<u32>, AllocError> {
+    plates
+        .iter()
+        .zip(said.iter())
+        .filter(|(_, one)| *one == this)
+        .map(|(plate, _)| *plate)
+        .collect(heap)
 }
 
 // The items of a group, by the plates of the levers.
-fn list(plates: &[u32], group: &Marks) -> Listing {
-    let mut items = [(0, Mark::Plus); MOST_TRIED];
-    let mut count: usize = 0;
-    for (plate, mark) in plates.iter().zip(group.marks.iter()) {
-        if let Some(mark) = mark {
-            put(&mut items, count, (*plate, *mark));
-            count = count.saturating_add(1);
-        }
-    }
-    Listing { count, items }
-}
-
-// Puts an item at a place.
-fn put(items: &mut [(u32, Mark); MOST_TRIED], at: usize, item: (u32, Mark)) {
-    if let Some(held) = items.get_mut(at) {
-        *held = item;
-    }
-}
-
-// A power of a number, as far as it fits.
-fn power(base: u32, exponent: usize) -> u32 {
-    let mut value: u32 = 1;
-    for _ in 0..exponent {
-        value = value.saturating_mul(base);
-    }
-    value
+pub fn list(heap: Global, plates: &[u32], group: &Marks) -> Result<Listing, AllocError> {
+    plates
+        .iter()
+        .zip(group.marks.iter())
+        .filter_map(|(plate, mark)| mark.map(|mark| (*plate, mark)))
+        .collect(heap)
 }

@@ -3,5 +3,5 @@ use Rattle.frames.specs.Fitted.{fitted}
 use Rattle.rows.specs.Rows.{groups_of, AllWithin}
 use Rattle.boundary.proofs.enter_all.Given as goal
 
-abbrev pub invariant-loop-at : goal.invariant-loop-at
-invariant-loop-at g l = AllWithin (length (fitted l.plates)) (groups_of l.table)
+abbrev pub invariant-loop-bytes : goal.invariant-loop-bytes
+invariant-loop-bytes g l = AllWithin (length (fitted l.plates)) (groups_of l.table)

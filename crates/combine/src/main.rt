@@ -69,7 +69,7 @@ fn report<W: Write>(heap: Global, input: &[u8], out: &mut W) -> io::Result<()> {
     let mut lines = read_lines(heap, input, out)?;
     lines.plates.sort_unstable();
     lines.plates.dedup();
-    let Some(plates) = frame_of(lines.plates.as_slice()) else {
+    let Ok(plates) = Plates::try_from(lines.plates.as_slice()) else {
         return out.write_all(b"more than 32 different plates\n");
     };
     let groups = place_all(heap, &plates, lines.entries.as_slice())?;
@@ -95,7 +95,7 @@ fn read_lines<'a, W: Write>(heap: Global, input: &'a [u8], out: &mut W) -> io::R
         match read_line(text, number, out)? {
             Some(group) => {
                 entries.push(Entry { number, text })?;
-                add_plates(&mut plates, &group)?;
+                plates.extend(group.items().iter().map(|item| item.plate))?;
             }
             None => refused = refused.saturating_add(1),
         }
@@ -128,25 +128,6 @@ fn write_line<W: Write>(buffer: &[u8], length: Option<usize>, out: &mut W) -> io
     let text = length.and_then(|n| buffer.get(..n)).unwrap_or(&[]);
     out.write_all(text)?;
     out.write_all(b"\n")
-}
-
-// Adds the plates of a group to those that were read.
-fn add_plates(plates: &mut Vec<u32>, group: &Group) -> io::Result<()> {
-    for item in group.items() {
-        plates.push(item.plate)?;
-    }
-    Ok(())
-}
-
-// The frame of the plates, which rise, if it has places for all of them.
-fn frame_of(plates: &[u32]) -> Option<Plates> {
-    let mut frame = Plates::new();
-    for plate in plates {
-        if frame.fit(*plate).is_err() {
-            return None;
-        }
-    }
-    Some(frame)
 }
 
 // Every group that was read, by its places in the frame.

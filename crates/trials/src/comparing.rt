@@ -1,7 +1,7 @@
 // Drawn frames through the engine and through the trial, and whether the two agree.
 use super::agreeing::agree;
 use super::drawing::Drawn;
-use super::running::{Outcome, frame_of, run_lines};
+use super::running::{Outcome, run_lines};
 use super::signs::{Mark, Marks};
 use super::trial::{Listing, Trial, list, try_all};
 use crews::crew::Crew;
@@ -85,7 +85,7 @@ pub fn compare<C: Crew>(
     let plates = frame.plates.as_slice();
     let trial = try_all(heap, crew, plates, frame.lines.as_slice())?;
     let groups = spell_all(heap, plates, frame.lines.as_slice())?;
-    let agreed = frame_of(plates).is_some_and(|fitted| runs_like(
+    let agreed = Plates::try_from(plates).is_ok_and(|fitted| runs_like(
         crew,
         &fitted,
         groups.as_slice(),

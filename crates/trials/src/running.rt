@@ -42,32 +42,13 @@ pub fn run_lines<C: Crew>(crew: &C, plates: &Plates, groups: &[Group]) -> Result
     })
 }
 
-// The frame of the plates, which rise, if it has places for all of them.
-pub fn frame_of(plates: &[u32]) -> Option<Plates> {
-    let mut frame = Plates::new();
-    for plate in plates {
-        if frame.fit(*plate).is_err() {
-            return None;
-        }
-    }
-    Some(frame)
-}
-
 // The frame of the plates that some groups name, if it has places for all of them.
 pub fn frame_of_groups(heap: Global, groups: &[Group]) -> Result<Option<Plates>, AllocError> {
     let mut plates = Vec::new(heap);
     for group in groups {
-        add_plates(&mut plates, group)?;
+        plates.extend(group.items().iter().map(|item| item.plate))?;
     }
     plates.sort()?;
     plates.dedup();
-    Ok(frame_of(plates.as_slice()))
-}
-
-// Adds the plates of a group to others.
-fn add_plates(plates: &mut Vec<u32>, group: &Group) -> Result<(), AllocError> {
-    for item in group.items() {
-        plates.push(item.plate)?;
-    }
-    Ok(())
+    Ok(Plates::try_from(plates.as_slice()).ok())
 }

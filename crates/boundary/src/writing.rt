@@ -23,13 +23,9 @@ fn halves_of(group: Placed) -> [u32; 2] {
 
 // The number whose digit k is 1 where the lever at place k has an end.
 fn number_of<F: Fn(usize) -> bool>(has_end: F) -> u32
-    requires { F.IsAlwaysCallable has_end }
+    requires { (f : F) (x : _) → F.pre f x }
 {
-    let mut number = 0;
-    for place in 0..MOST_LEVERS {
-        if has_end(place) {
-            number |= 1 << place;
-        }
-    }
-    number
+    (0..MOST_LEVERS).fold(0, |number, place| {
+        number | u32::from(has_end(place)) << place
+    })
 }

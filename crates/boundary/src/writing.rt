@@ -20,11 +20,7 @@ fn halves_of(group: Placed) -> [u32; 2] {
 
 // The number whose digit k is 1 where the group has an end of the lever at place k.
 fn number_of(group: Placed, end: End) -> u32 {
-    let mut number = 0;
-    for place in 0..MOST_LEVERS {
-        if group.has_end(place, end) {
-            number |= 1 << place;
-        }
-    }
-    number
+    (0..MOST_LEVERS).fold(0, |number, place| {
+        number | u32::from(group.has_end(place, end)) << place
+    })
 }

@@ -34,7 +34,9 @@ impl Tally {
         self.lines = self.lines.saturating_add(trial.lines);
         self.groups = self.groups.saturating_add(trial.table.len());
         self.cut = self.cut.saturating_add(trial.cut.len());
-        self.ended = self.ended.saturating_add(usize::from(trial.ended));
+        self.ended = self
+            .ended
+            .saturating_add(usize::from(trial.ended_by.is_some()));
     }
 }
 
@@ -103,7 +105,7 @@ fn runs_like<C: Crew>(crew: &C, plates: &Plates, groups: &[Group], trial: &Trial
 // Whether both have the same lines in force, the same table and the same cut list.
 fn agrees(plates: &Plates, outcome: &Outcome, trial: &Trial) -> bool {
     outcome.lines == trial.lines
-        && ends_alike(outcome.stop, trial.ended)
+        && ends_alike(outcome.stop, trial.ended_by.is_some())
         && are_listed(plates, outcome.table.all(), trial.table.as_slice())
         && are_listed(plates, outcome.cut.all(), trial.cut.as_slice())
 }

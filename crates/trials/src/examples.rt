@@ -105,7 +105,7 @@ fn small() -> [Small; 10] {
     ]
 }
 
-// How many small frames have the tables that they should have.
+// How many small frames have the tables that they should have. A `for`, since each turn may fail.
 pub fn small_frames(heap: Global) -> Result<usize, AllocError> {
     let mut count: usize = 0;
     for (lines, crew, table) in small() {

@@ -14,9 +14,7 @@ mod tried;
 
 use comparing::{Tally, compare};
 use drawing::draw_all;
-use growing::Stop;
 use lottery::Lottery;
-use running::Outcome;
 use std::io;
 use tried::Tried;
 
@@ -48,24 +46,16 @@ fn tell_examples(rt: &HostRuntime) -> io::Result<()> {
         Some(groups) => println!(rt; "seven levers: {groups} groups, and (7- 30-) is one of them")?,
         None => println!(rt; "seven levers: (7- 30-) is no group of the table")?,
     }
-    tell_outcome(rt, examples::fan(heap, [7, 7, 6])?)?;
-    tell_outcome(rt, examples::fan(heap, [7, 7, 7])?)
+    tell_fan(rt, [7, 7, 6])?;
+    tell_fan(rt, [7, 7, 7])
 }
 
-// Tells how many lines are in force, and how many groups and lines the table and the cut list have.
-fn tell_outcome(rt: &HostRuntime, outcome: Option<Outcome>) -> io::Result<()> {
-    let Some(outcome) = outcome else {
-        return println!(rt; "no frame");
-    };
-    let lines = outcome.lines;
-    let groups = outcome.table.all().len();
-    let cut = outcome.cut.all().len();
-    let next = match outcome.stop {
-        None => "there is no other line",
-        Some(Stop::NothingPossible) => "the next line would leave nothing possible",
-        Some(Stop::TooMany) => "with the next line the table would have too many",
-    };
-    println!(rt; "{lines} lines: {groups} groups, {cut} lines on the cut list; {next}")
+// Runs a fan, and tells what the engine makes of it.
+fn tell_fan(rt: &HostRuntime, counts: [u32; 3]) -> io::Result<()> {
+    match examples::fan(rt.alloc(), counts)? {
+        Some(outcome) => println!(rt; "{outcome}"),
+        None => println!(rt; "no frame"),
+    }
 }
 
 // Draws frames, and compares what engine and trial make of each with five crews.

@@ -7,6 +7,7 @@ use groups::group::Group;
 use growing::{Stop, grow};
 use rows::row::Row;
 use std::alloc::{AllocError, Global};
+use std::fmt;
 
 // What the engine makes of lines: the table and the cut list of the lines in force, how many these are, and what stopped the
 // next, if there is one that was stopped.
@@ -16,6 +17,23 @@ pub struct Outcome {
     pub cut: Row<128>,
     pub lines: usize,
     pub stop: Option<Stop>,
+}
+
+impl fmt::Display for Outcome {
+    fn fmt<W: fmt::Write>(&self, f: &mut fmt::Formatter<W>) -> fmt::Result {
+        let lines = self.lines;
+        let groups = self.table.all().len();
+        let cut = self.cut.all().len();
+        let next = match self.stop {
+            None => "there is no other line",
+            Some(Stop::NothingPossible) => "the next line would leave nothing possible",
+            Some(Stop::TooMany) => "with the next line the table would have too many",
+        };
+        write!(
+            f,
+            "{lines} lines: {groups} groups, {cut} lines on the cut list; {next}"
+        )
+    }
 }
 
 // Grows the table line by line, to the end or to the first line that is stopped. Refused: a plate that is not fitted.

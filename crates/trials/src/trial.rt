@@ -7,14 +7,14 @@ use std::cmp::Ordering;
 // The items of a group, in rising plates.
 pub type Listing = Vec<(u32, Mark)>;
 
-// What the trial makes of lines: the table and the cut list of the lines in force, how many these are, and whether they are
-// fewer than there were because the next line would leave no possible setting.
+// What the trial makes of lines: the table and the cut list of the lines in force, how many these are, and the line that
+// ended them because it would leave no possible setting, if there is one.
 #[derive(Drop)]
 pub struct Trial {
     pub table: Vec<Listing>,
     pub cut: Vec<Listing>,
     pub lines: usize,
-    pub ended: bool,
+    pub ended_by: Option<Marks>,
 }
 
 // Tries every setting and every group. The first line that would leave no possible setting ends the frame.
@@ -33,7 +33,7 @@ pub fn try_all<C: Crew>(
         table,
         cut,
         lines: force.len(),
-        ended: force.len() < lines.len(),
+        ended_by: lines.get(force.len()).copied(),
     })
 }
 

@@ -31,7 +31,8 @@ use Rattle.placed.proofs.Ends.{blank}
 use Rattle.placed.proofs.Spelled.{spelled_none, spelled_rises}
 use Rattle.rows.specs.Rows.{spell_all}
 use Rattle.telling.proofs.Drops.{spell_over, spell_all_over}
-use Rattle.growing.specs.Gathered.{Asked, told_of, Fresh, Gathered, Met, Joined, Paired, Complete, Ready, Possible}
+use Rattle.growing.specs.Gathered.{Asked, told_of, Fresh, Gathered, Met, Joined, Paired, Complete, Possible}
+use Rattle.growing.proofs.Ready.{Ready}
 use Rattle.growing.proofs.Taken.{covered_append}
 
 -- ## Lists of spelled groups

@@ -1,10 +1,10 @@
 -- Merging, one group after the other. Assumes nothing.
-use Rattle.std.proofs.Common.{◌≡◌, ℕ, zero, suc, ◌+◌, ◌<◌, Bool, true, false, cond, not, ◌⊎◌, List, [], ◌∷◌, ◌++◌, length, get_or, take, filter, sym, refl, ap, ◌∙◌, subst, inl, inr, ⊎_elim, arith}
+use Rattle.std.proofs.Common.{◌≡◌, ℕ, zero, suc, ◌+◌, ◌<◌, Bool, true, false, cond, not, ◌⊎◌, List, [], ◌∷◌, ◌++◌, length, get_or, take, filter, Ok, Err, is_err, Result, sym, refl, ap, ◌∙◌, subst, inl, inr, ⊎_elim, arith}
 use Rattle.std.specs.List.{ContainsAt as Has}
 use Rattle.std.proofs.lemmas.List.Elements.{filter_more}
 use Rattle.std.proofs.ByRecursion.{all-has, All-get_or, all_kept_by, All-weaker, has_push_cases, has_push, has_append_left, all_has_itself}
 use Rattle.std.proofs.lemmas.List.{append-nil, map_more, length-take-le, get_or-take}
-use Rattle.std.proofs.lemmas.Bool.{and_parts, and_from, cond-true, cond-false, both_ways, not_from_true, not_from_false, not-true}
+use Rattle.std.proofs.lemmas.Bool.{and_parts, and_from, cond-true, cond-false, both_ways, not_from_true, not_from_false, not-true, false≢true}
 use Rattle.groups.specs.declared.items.Item.{Item}
 use Rattle.groups.specs.Items.{covers}
 use Rattle.meaning.specs.Tables.{before, before_all, in_order, put_in_order, covered_by}
@@ -16,9 +16,11 @@ use Rattle.placed.specs.declared.Placed.{Placed}
 use Rattle.placed.specs.Signs.{Within}
 use Rattle.placed.specs.Spelling.{spell}
 use Rattle.placed.proofs.Spelled.{spelled_rises}
+use Rattle.fixed.specs.declared.methods.Full.{Full}
+use Rattle.fixed.specs.declared.row.Row.{Row}
 use Rattle.rows.specs.Rows.{spell_all, AllWithin}
 use Rattle.growing.specs.Gathered.{Apart}
-use Rattle.growing.specs.Merging.{uncovered_of, Mergeable, MergedUpto}
+use Rattle.growing.specs.Merging.{uncovered_of, Mergeable, MergedUpto, MergeFull, MergesTo}
 use Rattle.growing.proofs.Grown.{has_spelled, spelled_has}
 
 -- ## The groups that stay
@@ -141,3 +143,9 @@ module _ (ps : List ℕ) (table new r : List Placed) (k : ℕ) (d : Placed) (mer
 
       earlier : (c : List Item) → Has (spell_all ps (take k new)) c → Has (spell_all ps (take (k + 1) new)) c
       earlier c t = subst (λ xs. Has xs c) (sym more) (has_append_left (spell_all ps (take k new)) (spell ps (get_or new k d) ∷ []) c t)
+
+-- ## Where it was refused
+
+pub merge_refused : (table new : List Placed) (r : Result (Row Placed 512) Full) → is_err r ≡ true → ((ps : List ℕ) → Mergeable ps table new → MergeFull ps table new) → MergesTo table new r
+merge_refused table new (Ok x) e f = absurd (false≢true e)
+merge_refused table new (Err x) e f = f

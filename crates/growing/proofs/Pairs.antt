@@ -1,9 +1,9 @@
 -- Two groups combined, lever by lever. Assumes nothing.
-use Rattle.std.proofs.Common.{◌≡◌, ℕ, ◌+◌, ◌<◌, ◌≤◌, Bool, true, false, cond, eqb, ◌⊎◌, List, ◌++◌, length, get_or, take, Some, None, Option, sym, refl, ap, ◌∙◌, subst, inl, inr, ⊎_elim, arith}
+use Rattle.std.proofs.Common.{◌≡◌, ℕ, ◌+◌, ◌<◌, ◌≤◌, Bool, true, false, cond, eqb, ◌⊎◌, List, ◌++◌, length, get_or, take, Some, None, Ok, Err, is_ok, is_err, Option, Result, sym, refl, ap, ◌∙◌, subst, inl, inr, ⊎_elim, arith}
 use Rattle.std.specs.List.{AllByRecursion}
 use Rattle.std.proofs.ByRecursion.{All-weaker, All-more, All-get_or}
 use Rattle.std.proofs.lemmas.List.{append_assoc, get_or_append_left, get_or_default, length-append}
-use Rattle.std.proofs.lemmas.Bool.{cases_eq, cases_lt, cond-false, ne_eqb, false≢true}
+use Rattle.std.proofs.lemmas.Bool.{both_ways, cases_eq, cases_lt, cond-false, ne_eqb, false≢true}
 use Rattle.groups.specs.declared.items.Item.{Item}
 use Rattle.groups.specs.declared.items.Sign.{Sign}
 use Rattle.groups.specs.declared.items.Sign.TheVariants.{Plus, Minus, Star}
@@ -33,9 +33,14 @@ grew_length old new g = omega (arith, ap length g.is, length-append old g.more)
 pub paired_grew : (a : Asked) (old new : List Placed) (g h : Placed) → Grew old new → Paired a old g h → Paired a new g h
 paired_grew a old new g h more p x c j = met_grew a old new c more (p x c j)
 
+-- an error is no success
+not_ok : {E : Type 0} (r : Result (Unit {0}) E) → is_err r ≡ true → is_ok r ≡ false
+not_ok (Ok x) h = absurd (false≢true h)
+not_ok (Err e) h = refl
+
 -- a step that ran out of room ends all that follow
-pub step_stopped : (a : Asked) (old mid new : List Placed) (ok : Bool) (G H : List Placed → Type 0) → ok ≡ false → Grew old mid → Step a mid new ok G → Step a old new false H
-step_stopped a old mid new ok G H e g s = record { gathered = s.gathered; grew = grew_trans old mid new g s.grew; done = λ z. absurd (false≢true z); full = λ _. s.full e }
+pub step_stopped : {E : Type 0} (a : Asked) (old mid new : List Placed) (ok : Bool) (r : Result (Unit {0}) E) (G H : List Placed → Type 0) → ok ≡ false → is_err r ≡ true → Grew old mid → Step a mid new ok G → Step a old new (is_ok r) H
+step_stopped a old mid new ok r G H e h g s = record { gathered = s.gathered; grew = grew_trans old mid new g s.grew; done = λ z. absurd (both_ways (is_ok r) (not_ok r h) z); full = λ _. s.full e }
 
 -- ## One lever
 

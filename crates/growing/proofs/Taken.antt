@@ -18,7 +18,8 @@ use Rattle.placed.specs.Spelling.{spell}
 use Rattle.placed.proofs.Spelled.{spelled_rises}
 use Rattle.rows.specs.Rows.{spell_all, AllWithin}
 use Rattle.telling.specs.Shortened.{Shortened}
-use Rattle.growing.specs.Gathered.{Asked, told_of, Fresh, Apart, Gathered, Met, met_by, Grew, Overfull, Step, Ready}
+use Rattle.growing.specs.Gathered.{Asked, told_of, Fresh, Apart, Gathered, Met, met_by, Grew, Overfull, Step}
+use Rattle.growing.proofs.Ready.{Ready}
 
 -- ## What is covered
 

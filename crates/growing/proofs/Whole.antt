@@ -1,24 +1,28 @@
 -- Growing as a whole: from what was gathered and merged to the answer. Assumes nothing.
-use Rattle.std.proofs.Common.{◌≡◌, ℕ, suc, ◌<◌, ◌≤◌, true, false, List, [], ◌∷◌, ◌++◌, length, get_or, take, None, Ok, Err, sym, refl, ap, ◌∙◌, subst, inl, inr, ⊎_elim, arith}
+use Rattle.std.proofs.Common.{◌≡◌, ℕ, suc, ◌<◌, ◌≤◌, true, false, List, [], ◌∷◌, ◌++◌, length, get_or, take, None, Ok, Err, Result, sym, refl, ap, ◌∙◌, subst, inl, inr, ⊎_elim, arith}
+use Rattle.std.specs.Result.{IsErrAnd}
 use Rattle.std.specs.List.{ContainsAt as Has, AllByRecursion}
 use Rattle.std.proofs.ByRecursion.{All-map, All-weaker, all_has_itself}
 use Rattle.std.proofs.lemmas.List.{take_all, length-map, length-append, length-take, get_or-take}
 use Rattle.groups.specs.declared.items.Item.{Item}
 use Rattle.groups.specs.Rises.{item_if}
+use Rattle.meaning.specs.Crews.{Admits}
 use Rattle.meaning.specs.Frames.{Sound, Shortest}
 use Rattle.meaning.specs.Tables.{IsTable, covered_by}
 use Rattle.placed.specs.declared.Placed.{Placed}
 use Rattle.placed.specs.Signs.{sign_on}
 use Rattle.placed.specs.Spelling.{spell, spell_from}
 use Rattle.placed.proofs.Ends.{blank}
-use Rattle.rows.specs.declared.row.Row.{Row}
+use Rattle.fixed.specs.declared.row.Row.{Row}
 use Rattle.rows.specs.Rows.{groups_of, spell_all}
+use Rattle.growing.specs.declared.Stop.{Stop}
 use Rattle.growing.specs.declared.Stop.TheVariants.{NothingPossible, TooMany}
-use Rattle.growing.specs.Gathered.{Asked, told_of, Fresh, Gathered, Complete, Overfull, Ready}
+use Rattle.growing.specs.Gathered.{Asked, told_of, Fresh, Gathered, Complete, Overfull}
 use Rattle.growing.specs.Growth.{Oversized, GrowsTo}
 use Rattle.growing.specs.Merging.{Mergeable, MergedUpto, MergeFull}
 use Rattle.growing.proofs.Grown.{frame, table_items, grown_frame, merged_table, fresh_shortest, new_shortest, old_shortest, has_spelled, spelled_has, nothing_left, something_left}
 use Rattle.growing.proofs.Merges.{not_there}
+use Rattle.growing.proofs.Ready.{Ready}
 use Rattle.growing.proofs.Pigeons.{Different, no_longer, order_different, apart_different}
 use Rattle.growing.proofs.Taken.{gathered_within}
 
@@ -101,5 +105,10 @@ module _ (a : Asked) (ready : Ready a) where
       pub answer_full : ((ps : List ℕ) → Mergeable ps a.table new → MergeFull ps a.table new) → GrowsTo a.crew a.plates a.table a.line (Err TooMany)
       answer_full f lines sound table = (something_left a lines ready sound table left, merged_too_many a lines ready sound table new gathered complete (f a.plates (mergeable a lines ready sound table new gathered complete)))
 
-      pub answer_table : (r : Row 512) → ((ps : List ℕ) → Mergeable ps a.table new → MergedUpto (length new) ps a.table new (groups_of r)) → GrowsTo a.crew a.plates a.table a.line (Ok r)
+      pub answer_table : (r : Row Placed 512) → ((ps : List ℕ) → Mergeable ps a.table new → MergedUpto (length new) ps a.table new (groups_of r)) → GrowsTo a.crew a.plates a.table a.line (Ok r)
       answer_table r m lines sound table = (something_left a lines ready sound table left, merged_is a lines ready sound table new gathered complete (groups_of r) (m a.plates (mergeable a lines ready sound table new gathered complete)))
+
+-- where more than 512 groups came up, there are too many
+pub stopped_too_many : (crew : Admits) (ps : List ℕ) (table : List Placed) (line : Placed) (r : Result (Row Placed 512) Stop) → IsErrAnd r (λ stop. stop ≡ TooMany) → GrowsTo crew ps table line (Err TooMany) → GrowsTo crew ps table line r
+stopped_too_many crew ps table line (Ok x) e g = absurd e
+stopped_too_many crew ps table line (Err stop) e g = subst (λ z. GrowsTo crew ps table line (Err z)) (sym e) g

@@ -1,9 +1,8 @@
 -- The groups that one more line adds to a table, as they are gathered. Assumes nothing.
-use Rattle.std.specs.Prelude.{◌≡◌, ℕ, ◌<◌, ◌≤◌, Bool, true, false, not, ◌||◌, ◌⊎◌, List, [], ◌∷◌, ◌++◌, length, slice_index, slice_index_or}
+use Rattle.std.specs.Prelude.{◌≡◌, ℕ, ◌<◌, Bool, true, false, not, ◌||◌, ◌⊎◌, List, [], ◌∷◌, ◌++◌, length, slice_index, slice_index_or, Ok, Err, is_ok, Result}
 use Rattle.std.specs.List.{AllByRecursion}
 use Rattle.groups.specs.declared.items.Item.{Item}
 use Rattle.groups.specs.Items.{covers, Combination}
-use Rattle.groups.specs.Rises.{climbing}
 use Rattle.meaning.specs.Crews.{Admits}
 use Rattle.meaning.specs.States.{Setting}
 use Rattle.meaning.specs.Frames.{Frame, possible, stars}
@@ -12,8 +11,12 @@ use Rattle.meaning.specs.Laws.{read_off}
 use Rattle.placed.specs.declared.Placed.{Placed}
 use Rattle.placed.specs.Signs.{Within}
 use Rattle.placed.specs.Spelling.{spell}
-use Rattle.rows.specs.Rows.{spell_all, AllWithin}
-use Rattle.telling.specs.Shortened.{FirmBelow}
+use Rattle.fixed.specs.declared.methods.Full.{Full}
+use Rattle.fixed.specs.declared.row.Row.{Row}
+use Rattle.frames.specs.Fitted.{fitted}
+use Rattle.rows.specs.Rows.{groups_of, spell_all}
+use Rattle.telling.specs.Shortened.{FirmBelow, Shortened}
+use Rattle.growing.specs.declared.growth.Growth.{Growth}
 
 -- what is asked: the crew, the plates, the table of the lines so far, and one more line
 pub record Asked : Type 0 where
@@ -22,12 +25,17 @@ pub record Asked : Type 0 where
   pub table : List Placed
   pub line : Placed
 
-abbrev pub asked : Admits → List ℕ → List Placed → Placed → Asked
-asked crew ps table line = record { crew = crew; plates = ps; table = table; line = line }
+-- what is asked, of a crew by what it means
+abbrev pub asked_of : {C : Type 0} → (C → Admits) → Growth C → Asked
+asked_of means g = record { crew = means g.frame.crew.now; plates = fitted g.frame.plates.now; table = groups_of g.table.now; line = g.line }
 
 -- the table tells of a group by its items
 abbrev pub told_of : Asked → List Item → Bool
 told_of a c = read_off (spell_all a.plates a.table) (spell a.plates a.line) c
+
+-- s is what is left of the group g without each end that can go
+abbrev pub ShortenedFor : Asked → Placed → Placed → Type 0
+ShortenedFor a g s = Shortened g s a.plates (spell_all a.plates a.table) (spell a.plates a.line)
 
 -- what is known of each new group: the crew can manage it, it is forbidden with the line, no end of it can go, and the
 -- table does not cover it
@@ -82,16 +90,13 @@ pub record Step (a : Asked) (old new : List Placed) (ok : Bool) (Goal : List Pla
   pub done : ok ≡ true → Goal new
   pub full : ok ≡ false → Overfull a new
 
+-- what a call that grows a row of new groups leaves of it
+abbrev pub StepsTo : {C : Type 0} → (C → Admits) → Growth C → Row Placed 512 → Row Placed 512 → Result (Unit {0}) Full → (Asked → List Placed → Type 0) → Type 0
+StepsTo means g old new r Goal = Step (asked_of means g) (groups_of old) (groups_of new) (is_ok r) (Goal (asked_of means g))
+
 -- a group is met already: it is covered, or the crew can't manage it
 abbrev pub met_by : Asked → List Placed → List Item → Bool
 met_by a new c = (covered_by (spell_all a.plates a.table) c || covered_by (spell_all a.plates new) c) || not (a.crew (stars c))
-
--- the frame has the levers of the table and of the new line
-pub record Ready (a : Asked) : Type 0 where
-  pub climbs : climbing 0 a.plates ≡ true
-  pub few : length a.plates ≤ 32
-  pub within : AllWithin (length a.plates) a.table
-  pub line : Within (length a.plates) a.line
 
 -- a new group is combined with each group of the table and with each new group before it
 pub record PairedOne (a : Asked) (i : ℕ) (new : List Placed) : Type 0 where
@@ -107,6 +112,11 @@ ClosedBelow a k new = (i : ℕ) → i < k → PairedOne a i new
 pub record Complete (a : Asked) (new : List Placed) : Type 0 where
   pub line : Met a new (spell a.plates a.line)
   pub closed : ClosedBelow a (length new) new
+
+-- what gathering answers: all new groups, or that they are more than 512
+abbrev pub GathersTo : Asked → Result (Row Placed 512) Full → Type 0
+GathersTo a (Ok r) = Gathered a (groups_of r) × Complete a (groups_of r)
+GathersTo a (Err e) = (new : List Placed) × Overfull a new
 
 -- some setting is possible
 pub record Possible (f : Frame) : Type 0 where

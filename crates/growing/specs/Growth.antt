@@ -1,5 +1,5 @@
 -- What growing a table by one line answers. Assumes nothing.
-use Rattle.std.specs.Prelude.{◌≡◌, ℕ, ◌+◌, ◌<◌, ◌≤◌, false, List, [], ◌∷◌, length, take, Some, None, Ok, Err, Option, Result}
+use Rattle.std.specs.Prelude.{◌≡◌, ℕ, ◌+◌, ◌<◌, ◌≤◌, false, List, [], ◌∷◌, length, take, None, Ok, Err, Result}
 use Rattle.groups.specs.declared.items.Item.{Item}
 use Rattle.meaning.specs.States.{Setting}
 use Rattle.meaning.specs.Crews.{Admits}
@@ -9,9 +9,10 @@ use Rattle.meaning.specs.Laws.{with_line}
 use Rattle.placed.specs.declared.Placed.{Placed}
 use Rattle.placed.specs.Signs.{sign_on}
 use Rattle.placed.specs.Spelling.{spell}
-use Rattle.rows.specs.declared.row.Row.{Row}
-use Rattle.rows.specs.Rows.{groups_of, spell_all, AllWithin}
+use Rattle.fixed.specs.declared.row.Row.{Row}
+use Rattle.rows.specs.Rows.{groups_of, spell_all}
 use Rattle.managing.specs.Standing.{frame_of}
+use Rattle.growing.specs.declared.Overflow.{Overflow}
 use Rattle.growing.specs.declared.Stop.{Stop}
 use Rattle.growing.specs.declared.Stop.TheVariants.{NothingPossible, TooMany}
 use Rattle.growing.specs.Gathered.{Possible}
@@ -26,27 +27,13 @@ StopsFor f NothingPossible = (s : Setting) → possible f s ≡ false
 StopsFor f TooMany = Possible f × Oversized f
 
 -- a row is the table of a frame in which a setting is possible, or it is said why there is none
-abbrev pub TableOr : Frame → Result (Row 512) Stop → Type 0
+abbrev pub TableOr : Frame → Result (Row Placed 512) Stop → Type 0
 TableOr f (Ok r) = Possible f × IsTable f (spell_all f.plates (groups_of r))
 TableOr f (Err e) = StopsFor f e
 
 -- the answer to one more line, where the table is that of the lines so far, whichever these are
-abbrev pub GrowsTo : Admits → List ℕ → List Placed → Placed → Result (Row 512) Stop → Type 0
+abbrev pub GrowsTo : Admits → List ℕ → List Placed → Placed → Result (Row Placed 512) Stop → Type 0
 GrowsTo crew ps table line r = (lines : List (List Item)) → Sound (record { crew = crew; plates = ps; lines = lines }) → IsTable (record { crew = crew; plates = ps; lines = lines }) (spell_all ps table) → TableOr (with_line (record { crew = crew; plates = ps; lines = lines }) (spell ps line)) r
-
--- the groups of a table that there is name no lever from place n on
-abbrev pub WithinIf : ℕ → Result (Row 512) Stop → Type 0
-WithinIf n (Ok r) = AllWithin n (groups_of r)
-WithinIf n (Err e) = Unit {0}
-
--- a row is the frame's table, or the table has more than 512 groups
-abbrev pub TableIf : Frame → Option (Row 512) → Type 0
-TableIf f (Some r) = IsTable f (spell_all f.plates (groups_of r))
-TableIf f None = Oversized f
-
--- the table with one more line, also where no setting is possible
-abbrev pub NextTo : Admits → List ℕ → List Placed → Placed → Option (Row 512) → Type 0
-NextTo crew ps table line r = (lines : List (List Item)) → Sound (record { crew = crew; plates = ps; lines = lines }) → IsTable (record { crew = crew; plates = ps; lines = lines }) (spell_all ps table) → TableIf (with_line (record { crew = crew; plates = ps; lines = lines }) (spell ps line)) r
 
 -- the frame's table has at most 512 groups
 abbrev pub Fits : Frame → Type 0
@@ -57,22 +44,10 @@ abbrev pub FitBelow : Admits → List ℕ → List Placed → ℕ → Type 0
 FitBelow crew ps lines n = (i : ℕ) → i < n → Fits (frame_of crew ps (take i lines))
 
 -- the table of all lines, or how many of the first lines are the first to have more than 512 groups
-abbrev pub FromLines : Admits → List ℕ → List Placed → Result (Row 512) ℕ → Type 0
+abbrev pub FromLines : Admits → List ℕ → List Placed → Result (Row Placed 512) Overflow → Type 0
 FromLines crew ps lines (Ok r) = IsTable (frame_of crew ps lines) (spell_all ps (groups_of r)) × FitBelow crew ps lines (length lines + 1)
-FromLines crew ps lines (Err j) = (0 < j) × (j ≤ length lines) × Oversized (frame_of crew ps (take j lines)) × FitBelow crew ps lines j
-
--- the groups of a table that there is name no lever from place n on
-abbrev pub WithinOk : ℕ → Result (Row 512) ℕ → Type 0
-WithinOk n (Ok r) = AllWithin n (groups_of r)
-WithinOk n (Err j) = Unit {0}
+FromLines crew ps lines (Err e) = (0 < e.lines) × (e.lines ≤ length lines) × Oversized (frame_of crew ps (take e.lines lines)) × FitBelow crew ps lines e.lines
 
 -- one group, of no items
 abbrev pub OnlyEmpty : List Placed → Type 0
 OnlyEmpty gs = (g : Placed) × (gs ≡ g ∷ []) × ((k : ℕ) → sign_on g k ≡ None)
-
--- the table where growing stopped: the group of no items alone, or none for which there is room
-abbrev pub StoppedAs : Stop → Option (Row 512) → Type 0
-StoppedAs NothingPossible (Some r) = OnlyEmpty (groups_of r)
-StoppedAs NothingPossible None = ⊥
-StoppedAs TooMany (Some r) = ⊥
-StoppedAs TooMany None = Unit {0}

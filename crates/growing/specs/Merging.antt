@@ -1,12 +1,13 @@
 -- The groups of a table that no new group covers, and the new groups, in order. Assumes nothing.
-use Rattle.std.specs.Prelude.{◌≡◌, ℕ, ◌<◌, ◌≤◌, true, false, not, ◌⊎◌, List, length, take, Some, None, filter, Option}
+use Rattle.std.specs.Prelude.{◌≡◌, ℕ, ◌<◌, ◌≤◌, true, false, not, ◌⊎◌, List, length, take, Ok, Err, filter, Result}
 use Rattle.std.specs.List.{ContainsAt as Has, AllByRecursion}
 use Rattle.groups.specs.declared.items.Item.{Item}
 use Rattle.groups.specs.Rises.{climbing}
 use Rattle.meaning.specs.Tables.{in_order, covered_by}
 use Rattle.placed.specs.declared.Placed.{Placed}
 use Rattle.placed.specs.Spelling.{spell}
-use Rattle.rows.specs.declared.row.Row.{Row}
+use Rattle.fixed.specs.declared.methods.Full.{Full}
+use Rattle.fixed.specs.declared.row.Row.{Row}
 use Rattle.rows.specs.Rows.{groups_of, spell_all, AllWithin}
 use Rattle.telling.specs.Told.{Holds}
 use Rattle.growing.specs.Gathered.{Apart}
@@ -46,11 +47,6 @@ pub record MergeFull (ps : List ℕ) (table new : List Placed) : Type 0 where
   pub full : length part ≡ 512
 
 -- what merging answers
-abbrev pub MergesTo : List Placed → List Placed → Option (Row 512) → Type 0
-MergesTo table new None = (ps : List ℕ) → Mergeable ps table new → MergeFull ps table new
-MergesTo table new (Some r) = (ps : List ℕ) → Mergeable ps table new → MergedUpto (length new) ps table new (groups_of r)
-
--- the groups of a row that there is name no lever from place n on
-abbrev pub WithinSome : ℕ → Option (Row 512) → Type 0
-WithinSome n None = Unit {0}
-WithinSome n (Some r) = AllWithin n (groups_of r)
+abbrev pub MergesTo : List Placed → List Placed → Result (Row Placed 512) Full → Type 0
+MergesTo table new (Ok r) = (ps : List ℕ) → Mergeable ps table new → MergedUpto (length new) ps table new (groups_of r)
+MergesTo table new (Err e) = (ps : List ℕ) → Mergeable ps table new → MergeFull ps table new

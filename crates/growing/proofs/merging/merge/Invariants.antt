@@ -5,5 +5,5 @@ use Rattle.growing.proofs.merging.merge.Given as goal
 
 abbrev pub invariant-loop-group : goal.invariant-loop-group
 invariant-loop-group l =
-    ((ps : List ℕ) → Mergeable ps l.initial.table l.new → MergedUpto l.group-index ps l.initial.table l.new (groups_of l.merged))
-    × ((n : ℕ) → AllWithin n l.initial.table → AllWithin n l.new → AllWithin n (groups_of l.merged))
+    ((ps : List ℕ) → Mergeable ps (groups_of l.initial.table) l.added → MergedUpto l.group-index ps (groups_of l.initial.table) l.added (groups_of l.merged))
+    × ((n : ℕ) → AllWithin n (groups_of l.initial.table) → AllWithin n l.added → AllWithin n (groups_of l.merged))

@@ -5,4 +5,4 @@ use Rattle.growing.specs.Merging.{uncovered_of}
 use Rattle.growing.proofs.merging.uncovered.Given as goal
 
 abbrev pub invariant-loop-group : goal.invariant-loop-group
-invariant-loop-group l = (length (groups_of l.rest) ≤ l.group-index) × ((ps : List ℕ) → Holds ps l.new → groups_of l.rest ≡ uncovered_of ps l.new (take l.group-index l.table)) × ((n : ℕ) → AllWithin n l.table → AllWithin n (groups_of l.rest))
+invariant-loop-group l = (length (groups_of l.rest) ≤ l.group-index) × ((ps : List ℕ) → Holds ps l.new → groups_of l.rest ≡ uncovered_of ps l.new (take l.group-index l.group-items)) × ((n : ℕ) → AllWithin n l.group-items → AllWithin n (groups_of l.rest))

@@ -2,48 +2,47 @@
 // specs/Standing.antt has the frame that is meant.
 #![tactic(auto)]
 
-ghost use Rattle.std.specs.Prelude.{◌≡◌, ◌≤◌, true, length, take};
+ghost use Rattle.std.specs.Prelude.{◌≡◌, ◌≤◌, true, length};
+ghost use Rattle.fixed.specs.Rows.{held};
 ghost use Rattle.groups.specs.Rises.{climbing};
+ghost use Rattle.meaning.specs.Crews.{askable};
 ghost use Rattle.meaning.specs.Frames.{starred, stars};
 ghost use Rattle.placed.specs.Spelling.{spell};
 ghost use Rattle.frames.specs.Fitted.{fitted};
 
 use crews::crew::Crew;
+use fixed::row::Row;
 use frames::methods::MOST_LEVERS;
-use frames::plates::Plates;
 use groups::items::Sign;
+use manned::Manned;
 use placed::Placed;
 
-// Whether a crew can manage a group over the plates of a frame.
-pub fn manages<C: Crew>(crew: &C, plates: &Plates, group: Placed) -> bool
-    ensures { result ≡ C.Crew.admitted crew.now (stars (spell (fitted plates.now) group)) }
-{
-    asks(crew, plates, group)
+pub mod manned;
+
+impl<'a, C: Crew> Manned<'a, C> {
+    // Whether the crew can manage a group.
+    pub fn manages(self, group: Placed) -> bool
+        ensures { result ≡ C.Crew.admitted self.entry.crew.now (stars (spell (fitted self.entry.plates.now) group)) }
+    {
+        let moving = between(self.plates.all(), group);
+        self.crew.admits(moving.all())
+    }
 }
 
-// Asks the crew about the plates that the group has with *.
-fn asks<C: Crew>(crew: &C, plates: &Plates, group: Placed) -> bool
-    ensures { result ≡ C.Crew.admitted crew.now (stars (spell (fitted plates.now) group)) }
+// The plates that a group has with *, in rising order.
+fn between(plates: &[u32], group: Placed) -> Row<u32, MOST_LEVERS>
+    requires rises { climbing 0 plates.now ≡ true }
+    requires few { length plates.now ≤ 32 }
+    ensures stars { held result ≡ stars (spell plates.now group) }
+    ensures askable { askable (held result) ≡ true }
 {
-    let mut moving = [0; MOST_LEVERS];
-    let count = between(plates.all(), group, &mut moving);
-    crew.admits(&moving[0..count])
-}
-
-// Writes the plates that a group has with * to the front of a list, in rising order, and says how many they are.
-fn between(plates: &[u32], group: Placed, moving: &mut [u32]) -> usize
-    requires room { length plates.now ≤ length moving.old }
-    ensures count { result ≤ length plates.now }
-    ensures stars { take result moving.new ≡ stars (spell plates.now group) }
-{
-    let mut count = 0;
+    let mut moving = Row::new(0);
     for (place, plate) in plates.iter().enumerate() {
         if is_star(group.sign(place)) {
-            moving[count] = *plate;
-            count += 1;
+            let _ = moving.push(*plate);
         }
     }
-    count
+    moving
 }
 
 // Whether a sign, if there is one, is *.

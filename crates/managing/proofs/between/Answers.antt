@@ -1,8 +1,11 @@
-use Rattle.std.proofs.Common.{[], ◌∷◌, ◌++◌, get_or, take, sym, ap, ◌∙◌, arith}
-use Rattle.std.proofs.lemmas.List.{take_all, take_more_set}
+use Rattle.std.proofs.Common.{◌≡◌, ◌<◌, [], ◌∷◌, ◌++◌, length, get_or, sym, ap, ◌∙◌, arith}
+use Rattle.std.proofs.lemmas.Bool.{lt-ltb, cond-true}
+use Rattle.std.proofs.lemmas.List.{take_all, length_push}
+use Rattle.fixed.specs.Rows.{held}
+use Rattle.meaning.specs.Crews.{askable}
 use Rattle.meaning.specs.Frames.{starred, stars}
 use Rattle.placed.specs.Spelling.{spell}
-use Rattle.managing.proofs.Stars.{stars_more, stars_same}
+use Rattle.managing.proofs.Stars.{stars_more, stars_same, stars_askable}
 use Rattle.managing.proofs.between.Goals as goal
 use Rattle.managing.proofs.between.Goals.{then-is_star, else-is_star}
 
@@ -11,24 +14,23 @@ loop-place-preserved c =
     let ps = c.args.plates.now in
     let n = c.loop-place.place in
     let group = c.args.group in
+    let old = held c.loop-place.moving in
     let inv = c.loop-place.invariant in
     elim c.if-is_star.branch [
-      | then-is_star w ↦ (
-        omega (arith, w.count-is),
-        (λ i. take (w.count-is i) (w.moving-is i))
-            ∙ take_more_set c.loop-place.moving c.loop-place.count (get_or ps n 0) (omega (arith, c.requires.room, c.loop-place.auto.moving, c.loop-place-test.true))
-            ∙ ap (λ xs. xs ++ (get_or ps n 0 ∷ [])) inv.1
-            ∙ sym (stars_more ps n group c.loop-place-test.true (ap starred (sym c.sign.ensures) ∙ sym c.is_star.ensures ∙ w.if-is_star.true)),
-      )
+      | then-is_star w ↦
+          let room : length old < 32 = omega (arith, inv.0, c.loop-place-test.true, c.requires.few) in
+          let after : held w.push.new.self ≡ old ++ (get_or ps n 0 ∷ []) = w.push.ensures.after ∙ cond-true _ (old ++ (get_or ps n 0 ∷ [])) old (w.push.ensures.room ∙ lt-ltb (length old) 32 room) in (
+            omega (arith, inv.0, ap (λ r. length (held r)) w.moving-is, ap length after, length_push old (get_or ps n 0)),
+            ap held w.moving-is ∙ after ∙ ap (λ xs. xs ++ (get_or ps n 0 ∷ [])) inv.1 ∙ sym (stars_more ps n group c.loop-place-test.true (ap starred (sym c.sign.ensures) ∙ sym c.is_star.ensures ∙ w.if-is_star.true)),
+          )
       | else-is_star w ↦ (
-        omega (arith, w.count-is),
-        (λ i. take (w.count-is i) (w.moving-is i)) ∙ inv.1 ∙ sym (stars_same ps n group c.loop-place-test.true (ap starred (sym c.sign.ensures) ∙ sym c.is_star.ensures ∙ w.if-is_star.false)),
+        omega (arith, inv.0, ap (λ r. length (held r)) w.moving-is),
+        ap held w.moving-is ∙ inv.1 ∙ sym (stars_same ps n group c.loop-place-test.true (ap starred (sym c.sign.ensures) ∙ sym c.is_star.ensures ∙ w.if-is_star.false)),
       )
     ]
 
 pub returns : goal.returns
 returns c =
-    record {
-      count = omega (arith, c.loop-place.invariant.0, c.loop-place.auto.place-end);
-      stars = c.loop-place.invariant.1 ∙ ap (λ ps. stars (spell ps c.args.group)) (take_all c.loop-place.place c.args.plates.now c.loop-place-test.false);
-    }
+    let ps = c.args.plates.now in
+    let is : held c.loop-place.moving ≡ stars (spell ps c.args.group) = c.loop-place.invariant.1 ∙ ap (λ ps. stars (spell ps c.args.group)) (take_all c.loop-place.place ps c.loop-place-test.false) in
+    record { stars = is; askable = ap askable is ∙ stars_askable ps c.args.group c.requires.rises c.requires.few }

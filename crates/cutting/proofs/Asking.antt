@@ -22,8 +22,9 @@ use Rattle.placed.specs.Spelling.{spell}
 use Rattle.placed.proofs.Spelled.{spelled_none, spelled_rises}
 use Rattle.rows.specs.Rows.{spell_all}
 use Rattle.managing.specs.Standing.{frame_of}
-use Rattle.cutting.specs.Searching.{Escape}
-use Rattle.cutting.specs.Deciding.{Asked}
+use Rattle.levers.specs.declared.Levers.{Levers}
+use Rattle.cutting.specs.Searching.{Escape, SearchedOver, LeversOf}
+use Rattle.cutting.specs.Deciding.{Told}
 
 -- the plate at a place is one of the plates
 place_fitted : (ps : List ℕ) (j : ℕ) → j < length ps → is_one_of ps (get_or ps j 0) ≡ true
@@ -105,18 +106,19 @@ module _ (crew : Admits) (laws : Lawful crew) (ps : List ℕ) (climbs : climbing
         (λ v. v)
         (cases_Bool (shows s g))
 
-pub asked : (crew : Admits) → Lawful crew → (ps : List ℕ) → climbing 0 ps ≡ true → (line : Placed) (r : Bool) → r ≡ crew (stars (spell ps line)) → Asked crew ps line r
-asked crew laws ps climbs line r is =
+-- what the crew says of a line that it cannot manage decides, whatever the others, and of one that it can manage what the
+-- search among the others found
+pub told_searched : (crew : Admits) (ps : List ℕ) (lines others : List Placed) (line : Placed) (levers : Levers) (managed found : Bool) → Lawful crew → climbing 0 ps ≡ true → managed ≡ crew (stars (spell ps line)) → managed ≡ true → LeversOf ps levers → SearchedOver levers others line found → Told (frame_of crew ps lines) (spell_all ps others) (spell ps line) found
+told_searched crew ps lines others line levers managed found laws climbs is managed_so of searched =
+    let told = searched.over ps climbs of in
     record {
-      no = λ n lines others.
-          record {
-            kept = λ t. absurd (false≢true t);
-            left = λ _. unmanaged_superfluous crew laws ps climbs lines line others (sym is ∙ n);
-          };
-      yes = λ y lines others found search.
-          let told = search.over ps climbs refl in
-          record {
-            kept = λ t. escape_needed crew laws ps climbs lines line others (sym is ∙ y) (told.yes t);
-            left = λ t. excluded_superfluous (frame_of crew ps lines) (spell_all ps others) (spell ps line) (told.none t);
-          };
+      kept = λ t. escape_needed crew laws ps climbs lines line others (sym is ∙ managed_so) (told.yes t);
+      left = λ t. excluded_superfluous (frame_of crew ps lines) (spell_all ps others) (spell ps line) (told.none t);
+    }
+
+pub told_unmanaged : (crew : Admits) (ps : List ℕ) (lines others : List Placed) (line : Placed) (managed : Bool) → Lawful crew → climbing 0 ps ≡ true → managed ≡ crew (stars (spell ps line)) → managed ≡ false → Told (frame_of crew ps lines) (spell_all ps others) (spell ps line) managed
+told_unmanaged crew ps lines others line managed laws climbs is not_managed =
+    record {
+      kept = λ t. absurd (both_ways managed not_managed t);
+      left = λ _. unmanaged_superfluous crew laws ps climbs lines line others (sym is ∙ not_managed);
     }

@@ -1,14 +1,18 @@
 -- What a judgement of the lines tells of the settings that show the group, over any frame. Assumes nothing.
-use Rattle.std.proofs.Common.{◌≡◌, ℕ, zero, suc, ◌<◌, ◌≤◌, Bool, true, false, cond, ◌&&◌, eqb, ltb, ◌⊎◌, List, [], ◌∷◌, map, length, get_or, is_some, Some, None, Option, sym, refl, ap, ◌∙◌, subst, inl, inr, ⊎_elim, arith}
-use Rattle.std.specs.List.{ContainsAt as Has, AllByRecursion}
+use Rattle.std.proofs.Common.{◌≡◌, ℕ, zero, suc, ◌^◌, ◌<◌, ◌≤◌, Bool, true, false, cond, ◌&&◌, eqb, ltb, ◌⊎◌, List, [], ◌∷◌, map, length, get_or, is_some, Some, None, Option, Result, Ok, Err, sym, refl, ap, ◌∙◌, subst, inl, inr, ⊎_elim, arith}
+use Rattle.std.specs.List.{All, AllByRecursion, ContainsAt as Has}
 use Rattle.std.proofs.lemmas.List.{length-map, get_or-map}
-use Rattle.std.proofs.lemmas.Bool.{and_from, and_left, or_from, eq-eqb, ne_eqb, lt-ltb, cond-true, cond-false, cases_Bool, cases_eq, false≢true}
+use Rattle.std.proofs.lemmas.List.Elements.{at_from_Contains, recursion_from_All}
+use Rattle.std.proofs.lemmas.Bool.{and_from, and_left, or_from, eq-eqb, ne_eqb, lt-ltb, ltb-true, cond-true, cond-false, cases_Bool, cases_eq, cases_lt, false≢true}
 use Rattle.groups.specs.declared.items.Item.{Item}
 use Rattle.groups.specs.declared.items.Sign.{Sign}
 use Rattle.groups.specs.declared.items.Sign.TheVariants.{Plus, Minus}
 use Rattle.groups.specs.Items.{sign_at}
 use Rattle.groups.specs.Rises.{climbing}
 use Rattle.groups.proofs.Climbing.{place_cases}
+use Rattle.levers.specs.declared.Levers.{Levers}
+use Rattle.levers.specs.Sets.{has}
+use Rattle.levers.proofs.Members.{none_high}
 use Rattle.meaning.specs.States.{State, normal, reversed, between, Setting, shows, shows_any}
 use Rattle.meaning.specs.Shown.{sign_for}
 use Rattle.meaning.specs.Laws.{Excluded}
@@ -16,22 +20,28 @@ use Rattle.meaning.proofs.Covered.{shown_any}
 use Rattle.meaning.proofs.Ends.{upper, lower, ends, Within, states_of, shows_has, has_shows, shows_covered}
 use Rattle.meaning.proofs.Resting.{rest_at, rest, rest_shows}
 use Rattle.placed.specs.declared.Placed.{Placed}
+use Rattle.placed.specs.Lacking.{lacks}
 use Rattle.placed.specs.Signs.{sign_on}
 use Rattle.placed.specs.Spelling.{spell}
 use Rattle.placed.proofs.Ends.{sits_if}
 use Rattle.placed.proofs.Spelled.{spelled_sign, spelled_none, spelled_rises, spelled_covers}
 use Rattle.rows.specs.Rows.{spell_all}
-use Rattle.cutting.specs.declared.search.Bearing.TheVariants.{Meets, Fails}
-use Rattle.cutting.specs.Searching.{Escape, Searched, bearing_of, FailsAt, FreeAt, Judged, free_below, Halved}
-use Rattle.cutting.specs.declared.search.Next.{Next}
-use Rattle.cutting.specs.declared.search.Next.TheVariants.{Shown, Clear, Lever}
-use Rattle.cutting.proofs.Judging.{Met, Surveyed}
+use Rattle.cutting.specs.Searching.{Escape, Searched, LeversOf, Fails, fails, FreeAt, SomeMet, Surveyed, Judged, free_below, free_places, Halved}
+use Rattle.cutting.specs.declared.search.Choice.{Choice}
+use Rattle.cutting.specs.declared.search.Shown.{Shown}
 
-meets_sits : (o u : Option Sign) → bearing_of o u ≡ Meets → sits_if o u ≡ true
+meets_sits : (o u : Option Sign) → lacks u o ≡ false → sits_if o u ≡ true
 meets_sits o u h = grind arith
 
-fails_rests : (o u : Option Sign) → bearing_of o u ≡ Fails → Within o (Some (sign_for (rest_at u normal))) → ⊥
-fails_rests o u h w = let a = w upper in let b = w lower in grind arith
+-- what holds where the free levers rest does not fail
+rests_not_fails : (o u : Option Sign) → Within o (Some (sign_for (rest_at u normal))) → fails u o ≡ false
+rests_not_fails o u w = let a = w upper in let b = w lower in grind arith
+
+lever_low : (ps : List ℕ) (levers : Levers) (k : ℕ) → LeversOf ps levers → has levers k ≡ true → k < length ps
+lever_low ps levers k of h = ltb-true k (length ps) (sym (of k) ∙ h)
+
+low_lever : (ps : List ℕ) (levers : Levers) (k : ℕ) → LeversOf ps levers → k < length ps → has levers k ≡ true
+low_lever ps levers k of l = of k ∙ lt-ltb k (length ps) l
 
 itself_sits : (o : Option Sign) → sits_if o o ≡ true
 itself_sits o = grind arith
@@ -60,44 +70,46 @@ module _ (ps : List ℕ) (climbs : climbing 0 ps ≡ true) where
       ((spelled_covers ps line (spell ps set)).1 (λ k l. ap (sits_if (sign_on line k)) (spelled_sign ps set k climbs l) ∙ sits k l))
       v
 
-  -- one of the lines is shown in any case
-  pub met_excluded : (lines : List Placed) (set : Placed) → Met (length ps) lines set → Excluded (spell_all ps lines) (spell ps set)
-  met_excluded lines set m s v =
-      shown_any s (spell_all ps lines) (spell ps m.line) (has_map (spell ps) lines m.line m.member)
-      (sits_shown m.line set (λ k l. meets_sits (sign_on m.line k) (sign_on set k) (m.meets k l)) s v)
-
   -- the setting in which the levers that the group leaves free are normal
   abbrev resting : Placed → Setting
   resting set = rest (spell ps set) (λ _. normal)
 
-  fails_hidden : (line set : Placed) → FailsAt (length ps) line set → shows (resting set) (spell ps line) ≡ false
-  fails_hidden line set d =
-      let k = d.place in
-      ⊎_elim
-      (λ v.
-      absurd (fails_rests (sign_on line k) (sign_on set k) d.fails (λ e q.
-      ap (λ o. ends (Some (sign_for (rest_at o normal))) e) (sym (spelled_sign ps set k climbs d.low))
-      ∙ shows_has (resting set) (spell ps line) v (get_or ps k 0) e (ap (λ o. ends o e) (spelled_sign ps line k climbs d.low) ∙ q))))
-      (λ v. v)
-      (cases_Bool (shows (resting set) (spell ps line)))
+  module _ (levers : Levers) (of : LeversOf ps levers) where
+    -- one of the lines is shown in any case
+    pub met_excluded : (lines : List Placed) (set : Placed) → SomeMet levers lines set → Excluded (spell_all ps lines) (spell ps set)
+    met_excluded lines set m s v =
+        shown_any s (spell_all ps lines) (spell ps m.line) (has_map (spell ps) lines m.line (at_from_Contains lines m.line m.member))
+        (sits_shown m.line set (λ k l. meets_sits (sign_on m.line k) (sign_on set k) (m.meets.each k (low_lever ps levers k of l))) s v)
 
-  all_hidden : (lines : List Placed) (set : Placed) → AllByRecursion (λ l. FailsAt (length ps) l set) lines → shows_any (resting set) (spell_all ps lines) ≡ false
-  all_hidden [] set a = refl
-  all_hidden (l ∷ lines) set a = or_from _ _ (fails_hidden l set a.0) (all_hidden lines set a.1)
+    fails_hidden : (line set : Placed) → Fails levers line set → shows (resting set) (spell ps line) ≡ false
+    fails_hidden line set d =
+        ⊎_elim
+        (λ v.
+        absurd (d.one (λ k h.
+        let l = lever_low ps levers k of h in
+        rests_not_fails (sign_on line k) (sign_on set k) (λ e q.
+        ap (λ o. ends (Some (sign_for (rest_at o normal))) e) (sym (spelled_sign ps set k climbs l))
+        ∙ shows_has (resting set) (spell ps line) v (get_or ps k 0) e (ap (λ o. ends o e) (spelled_sign ps line k climbs l) ∙ q)))))
+        (λ v. v)
+        (cases_Bool (shows (resting set) (spell ps line)))
 
-  -- no line is shown where the levers that are left free rest
-  pub dead_escape : (lines : List Placed) (set : Placed) → AllByRecursion (λ l. FailsAt (length ps) l set) lines → Escape (spell_all ps lines) (spell ps set)
-  dead_escape lines set a =
-      record {
-        setting = resting set;
-        shown = rest_shows (λ _. normal) (spell ps set) (spelled_rises ps set climbs);
-        clear = all_hidden lines set a;
-      }
+    all_hidden : (lines : List Placed) (set : Placed) → AllByRecursion (λ l. Fails levers l set) lines → shows_any (resting set) (spell_all ps lines) ≡ false
+    all_hidden [] set a = refl
+    all_hidden (l ∷ lines) set a = or_from _ _ (fails_hidden l set a.0) (all_hidden lines set a.1)
+
+    -- no line is shown where the levers that are left free rest
+    pub dead_escape : (lines : List Placed) (set : Placed) → All (λ l. Fails levers l set) lines → Escape (spell_all ps lines) (spell ps set)
+    dead_escape lines set a =
+        record {
+          setting = resting set;
+          shown = rest_shows (λ _. normal) (spell ps set) (spelled_rises ps set climbs);
+          clear = all_hidden lines set (recursion_from_All (λ l. Fails levers l set) lines a);
+        }
 
   -- the group with one more lever
-  module _ (set more : Placed) (k : ℕ) (sign : Sign) (low : k < length ps) (few : length ps ≤ 32) (free : sign_on set k ≡ None) (is : (j : ℕ) → sign_on more j ≡ cond (eqb j k && ltb k 32) (Some sign) (sign_on set j)) where
+  module _ (set more : Placed) (k : ℕ) (sign : Sign) (low : k < 32) (free : sign_on set k ≡ None) (is : (j : ℕ) → sign_on more j ≡ cond (eqb j k && ltb k 32) (Some sign) (sign_on set j)) where
     here : sign_on more k ≡ Some sign
-    here = put_here set more k sign (omega arith) is
+    here = put_here set more k sign low is
 
     there : (j : ℕ) → (j ≡ k → ⊥) → sign_on more j ≡ sign_on set j
     there = put_there set more k sign is
@@ -134,17 +146,17 @@ module _ (ps : List ℕ) (climbs : climbing 0 ps ≡ true) where
         (λ none. subst (λ o. Within o (states_of s p)) (sym (spelled_none ps more p none)) (λ e q. absurd (false≢true q)))
         (place_cases ps p))
 
--- what is known of all lines tells what there is to find
-pub surveyed_judged : (n : ℕ) (lines : List Placed) (set : Placed) (next : Next) → Surveyed n lines set next → Judged n lines set next
-surveyed_judged n lines set Shown m =
+-- what is known of the lines tells what there is to find
+pub surveyed_judged : (levers : Levers) (lines : List Placed) (set : Placed) (r : Result (Option Choice) Shown) → Surveyed levers lines set r → Judged levers lines set r
+surveyed_judged levers lines set (Err e) m =
     record {
-      over = λ ps climbs l. record { yes = λ t. absurd (false≢true t); none = λ _. met_excluded ps climbs lines set (subst (λ k. Met k lines set) (sym l) m) };
+      over = λ ps climbs of. record { yes = λ t. absurd (false≢true t); none = λ _. met_excluded ps climbs levers of lines set m };
     }
-surveyed_judged n lines set Clear a =
+surveyed_judged levers lines set (Ok None) a =
     record {
-      over = λ ps climbs l. record { yes = λ _. dead_escape ps climbs lines set (subst (λ k. AllByRecursion (λ x. FailsAt k x set) lines) (sym l) a); none = λ t. absurd (false≢true (sym t)) };
+      over = λ ps climbs of. record { yes = λ _. dead_escape ps climbs levers of lines set a; none = λ t. absurd (false≢true (sym t)) };
     }
-surveyed_judged n lines set (Lever k free) o = o
+surveyed_judged levers lines set (Ok (Some choice)) o = o
 
 -- a free lever that is given a sign is free no more
 module _ (set more : Placed) (k : ℕ) (sign : Sign) (free : sign_on set k ≡ None) (here : sign_on more k ≡ Some sign) (there : (j : ℕ) → (j ≡ k → ⊥) → sign_on more j ≡ sign_on set j) where
@@ -171,38 +183,43 @@ module _ (set more : Placed) (k : ℕ) (sign : Sign) (free : sign_on set k ≡ N
       both false x y h = omega arith
 
 -- the search with one more lever, with + and with -
-module _ (n : ℕ) (set plus minus : Placed) (k : ℕ) (few : n ≤ 32) (o : FreeAt n set k) (is-plus : (j : ℕ) → sign_on plus j ≡ cond (eqb j k && ltb k 32) (Some Plus) (sign_on set j)) (is-minus : (j : ℕ) → sign_on minus j ≡ cond (eqb j k && ltb k 32) (Some Minus) (sign_on set j)) where
-  module _ (ps : List ℕ) (climbs : climbing 0 ps ≡ true) (l : length ps ≡ n) where
-    low : k < length ps
-    low = omega (arith, o.low)
-
-    upto : length ps ≤ 32
-    upto = omega arith
-
+module _ (levers : Levers) (set plus minus : Placed) (k : ℕ) (low : k < 32) (o : FreeAt levers set k) (is-plus : (j : ℕ) → sign_on plus j ≡ cond (eqb j k && ltb k 32) (Some Plus) (sign_on set j)) (is-minus : (j : ℕ) → sign_on minus j ≡ cond (eqb j k && ltb k 32) (Some Minus) (sign_on set j)) where
+  module _ (ps : List ℕ) (climbs : climbing 0 ps ≡ true) where
     found_over : (lines : List Placed) → Searched (spell_all ps lines) (spell ps plus) true → Searched (spell_all ps lines) (spell ps set) true
     found_over lines r =
         record {
-          yes = λ _. less_escape ps climbs set plus k Plus low upto o.free is-plus (spell_all ps lines) (r.yes refl);
+          yes = λ _. less_escape ps climbs set plus k Plus low o.free is-plus (spell_all ps lines) (r.yes refl);
           none = λ t. absurd (false≢true (sym t));
         }
 
     other_over : (lines : List Placed) (r : Bool) → Searched (spell_all ps lines) (spell ps plus) false → Searched (spell_all ps lines) (spell ps minus) r → Searched (spell_all ps lines) (spell ps set) r
     other_over lines r a b =
         record {
-          yes = λ t. less_escape ps climbs set minus k Minus low upto o.free is-minus (spell_all ps lines) (b.yes t);
+          yes = λ t. less_escape ps climbs set minus k Minus low o.free is-minus (spell_all ps lines) (b.yes t);
           none = λ f s v.
               ⊎_elim
-              (λ w. a.none refl s (more_shown ps climbs set plus k Plus low upto o.free is-plus s v w))
-              (λ w. b.none f s (more_shown ps climbs set minus k Minus low upto o.free is-minus s v w))
+              (λ w. a.none refl s (more_shown ps climbs set plus k Plus low o.free is-plus s v w))
+              (λ w. b.none f s (more_shown ps climbs set minus k Minus low o.free is-minus s v w))
               (at_an_end (s (get_or ps k 0)));
         }
 
-  pub halved : Halved n set plus minus
-  halved =
-      let low-k : k < 32 = omega (arith, o.low) in
+  halves : Halved levers set plus minus
+  unfolding free_places
+  halves =
       record {
-        plus_fewer = less_free set plus k Plus o.free (put_here set plus k Plus low-k is-plus) (put_there set plus k Plus is-plus) n o.low;
-        minus_fewer = less_free set minus k Minus o.free (put_here set minus k Minus low-k is-minus) (put_there set minus k Minus is-minus) n o.low;
-        found = λ lines r. record { over = λ ps climbs l. found_over ps climbs l lines (r.over ps climbs l) };
-        other = λ lines r a b. record { over = λ ps climbs l. other_over ps climbs l lines r (a.over ps climbs l) (b.over ps climbs l) };
+        plus_fewer = less_free set plus k Plus o.free (put_here set plus k Plus low is-plus) (put_there set plus k Plus is-plus) 32 low;
+        minus_fewer = less_free set minus k Minus o.free (put_here set minus k Minus low is-minus) (put_there set minus k Minus is-minus) 32 low;
+        found = λ lines r. record { over = λ ps climbs of. found_over ps climbs lines (r.over ps climbs of) };
+        other = λ lines r a b. record { over = λ ps climbs of. other_over ps climbs lines r (a.over ps climbs of) (b.over ps climbs of) };
       }
+
+-- a place in a set of levers is one of the first 32
+has_low : (levers : Levers) (k : ℕ) → levers.bits < 2 ^ 32 → has levers k ≡ true → k < 32
+has_low levers k bits h =
+    ⊎_elim
+    (λ l. l)
+    (λ le. absurd (false≢true (sym (none_high levers k bits le) ∙ h)))
+    (cases_lt k 32)
+
+pub halved : (levers : Levers) (set plus minus : Placed) (k : ℕ) → levers.bits < 2 ^ 32 → FreeAt levers set k → ((j : ℕ) → sign_on plus j ≡ cond (eqb j k && ltb k 32) (Some Plus) (sign_on set j)) → ((j : ℕ) → sign_on minus j ≡ cond (eqb j k && ltb k 32) (Some Minus) (sign_on set j)) → Halved levers set plus minus
+halved levers set plus minus k bits o p m = halves levers set plus minus k (has_low levers k bits o.low) o p m

@@ -1,21 +1,20 @@
 -- The search for a setting that shows a group and none of some lines. Assumes nothing.
-use Rattle.std.specs.Prelude.{◌≡◌, ℕ, zero, suc, ◌<◌, Bool, true, false, cond, List, length, is_some, Some, None, Option, nat_lt}
+use Rattle.std.specs.Prelude.{◌≡◌, ℕ, zero, suc, ◌<◌, Bool, true, false, cond, ◌&&◌, ◌||◌, if◌then◌else◌, nat_lt, nat_le, List, length, All, Contains, is_some, Some, None, Option, Result, Ok, Err}
 use Rattle.groups.specs.declared.items.Item.{Item}
 use Rattle.groups.specs.declared.items.Sign.{Sign}
-use Rattle.groups.specs.declared.items.Sign.TheVariants.{Plus, Minus, Star}
 use Rattle.groups.specs.Rises.{climbing}
+use Rattle.levers.specs.declared.Levers.{Levers}
+use Rattle.levers.specs.Sets.{has}
+use Rattle.meaning.specs.Frames.{starred}
 use Rattle.meaning.specs.States.{Setting, shows, shows_any}
 use Rattle.meaning.specs.Laws.{Excluded}
 use Rattle.placed.specs.declared.Placed.{Placed}
+use Rattle.placed.specs.Lacking.{lacks}
 use Rattle.placed.specs.Signs.{sign_on}
 use Rattle.placed.specs.Spelling.{spell}
 use Rattle.rows.specs.Rows.{spell_all}
-use Rattle.cutting.specs.declared.search.Bearing.{Bearing}
-use Rattle.cutting.specs.declared.search.Bearing.TheVariants.{Meets, Fails, Waits}
-use Rattle.cutting.specs.declared.search.Standing.{Standing}
-use Rattle.cutting.specs.declared.search.Standing.TheVariants.{Covers, Dead, Live}
-use Rattle.cutting.specs.declared.search.Next.{Next}
-use Rattle.cutting.specs.declared.search.Next.TheVariants.{Shown, Clear, Lever}
+use Rattle.cutting.specs.declared.search.Choice.{Choice}
+use Rattle.cutting.specs.declared.search.Shown.{Shown}
 
 -- a setting that shows the group and none of the lines
 pub record Escape (lines : List (List Item)) (g : List Item) : Type 0 where
@@ -28,70 +27,75 @@ pub record Searched (lines : List (List Item)) (g : List Item) (r : Bool) : Type
   pub yes : r ≡ true → Escape lines g
   pub none : r ≡ false → Excluded lines g
 
--- r tells it of lines and a group by their places, over any frame with n levers
-pub record SearchedOver (n : ℕ) (lines : List Placed) (set : Placed) (r : Bool) : Type 0 where
-  pub over : (ps : List ℕ) → climbing 0 ps ≡ true → length ps ≡ n → Searched (spell_all ps lines) (spell ps set) r
+-- the levers are those of a frame with these plates: the places from 0 on, one for each
+abbrev pub LeversOf : List ℕ → Levers → Type 0
+LeversOf ps levers = (k : ℕ) → has levers k ≡ nat_lt k (length ps)
 
--- how the sign of a line on a lever bears on whether the line is shown, where the group that is searched has the second
--- sign: it holds in each setting that shows the group; it does not hold in the one that rests wherever the group lets
--- it; or it waits on a lever that the group leaves free
-abbrev pub bearing_of : Option Sign → Option Sign → Bearing
-bearing_of None u = Meets
-bearing_of (Some Plus) None = Waits
-bearing_of (Some Minus) None = Waits
-bearing_of (Some Star) None = Fails
-bearing_of (Some Plus) (Some Plus) = Meets
-bearing_of (Some Plus) (Some Minus) = Fails
-bearing_of (Some Plus) (Some Star) = Meets
-bearing_of (Some Minus) (Some Plus) = Fails
-bearing_of (Some Minus) (Some Minus) = Meets
-bearing_of (Some Minus) (Some Star) = Meets
-bearing_of (Some Star) (Some Plus) = Fails
-bearing_of (Some Star) (Some Minus) = Fails
-bearing_of (Some Star) (Some Star) = Meets
+-- r tells it of lines and a group by their places, over any frame that has just the levers
+pub record SearchedOver (levers : Levers) (lines : List Placed) (set : Placed) (r : Bool) : Type 0 where
+  pub over : (ps : List ℕ) → climbing 0 ps ≡ true → LeversOf ps levers → Searched (spell_all ps lines) (spell ps set) r
 
--- the sign of the line at each place below n holds in each setting that shows the group
-abbrev pub MeetsBelow : ℕ → Placed → Placed → Type 0
-MeetsBelow n line set = (k : ℕ) → k < n → bearing_of (sign_on line k) (sign_on set k) ≡ Meets
+-- each setting that shows the group has each of the levers where the line has it
+pub record Meets (levers : Levers) (line set : Placed) : Type 0 where
+  pub each : (k : ℕ) → has levers k ≡ true → lacks (sign_on set k) (sign_on line k) ≡ false
 
--- a place below n at which the sign of the line fails
-pub record FailsAt (n : ℕ) (line set : Placed) : Type 0 where
-  pub place : ℕ
-  pub low : place < n
-  pub fails : bearing_of (sign_on line place) (sign_on set place) ≡ Fails
+-- where the levers that the group leaves free rest, a lever is not where the line has it: the group has another sign there,
+-- or none and the line has *
+abbrev pub fails : Option Sign → Option Sign → Bool
+fails u o = lacks u o && (is_some u || starred o)
 
--- a lever below n that the group leaves free
-pub record FreeAt (n : ℕ) (set : Placed) (k : ℕ) : Type 0 where
-  pub low : k < n
+-- one of the levers is so
+pub record Fails (levers : Levers) (line set : Placed) : Type 0 where
+  pub one : ((k : ℕ) → has levers k ≡ true → fails (sign_on set k) (sign_on line k) ≡ false) → ⊥
+
+-- one of the levers that the group leaves free
+pub record FreeAt (levers : Levers) (set : Placed) (k : ℕ) : Type 0 where
+  pub low : has levers k ≡ true
   pub free : sign_on set k ≡ None
 
 -- what is told of one line
-abbrev pub Stands : ℕ → Placed → Placed → Standing → Type 0
-Stands n line set Covers = MeetsBelow n line set
-Stands n line set Dead = FailsAt n line set
-Stands n line set (Live free lever) = FreeAt n set lever
+abbrev pub Weighed : Levers → Placed → Placed → Result (Option Choice) Shown → Type 0
+Weighed levers line set (Err e) = Meets levers line set
+Weighed levers line set (Ok None) = Fails levers line set
+Weighed levers line set (Ok (Some choice)) = FreeAt levers set choice.lever
+
+-- one of the lines is so met
+pub record SomeMet (levers : Levers) (lines : List Placed) (set : Placed) : Type 0 where
+  pub line : Placed
+  pub member : Contains lines line
+  pub meets : Meets levers line set
+
+-- what is told of some lines, line by line
+abbrev pub Surveyed : Levers → List Placed → Placed → Result (Option Choice) Shown → Type 0
+Surveyed levers lines set (Err e) = SomeMet levers lines set
+Surveyed levers lines set (Ok None) = All (λ l. Fails levers l set) lines
+Surveyed levers lines set (Ok (Some choice)) = FreeAt levers set choice.lever
 
 -- what is told of some lines: there is no setting to find; there is one; or a lever that the group leaves free
-abbrev pub Judged : ℕ → List Placed → Placed → Next → Type 0
-Judged n lines set Shown = SearchedOver n lines set false
-Judged n lines set Clear = SearchedOver n lines set true
-Judged n lines set (Lever k free) = FreeAt n set k
+abbrev pub Judged : Levers → List Placed → Placed → Result (Option Choice) Shown → Type 0
+Judged levers lines set (Err e) = SearchedOver levers lines set false
+Judged levers lines set (Ok None) = SearchedOver levers lines set true
+Judged levers lines set (Ok (Some choice)) = FreeAt levers set choice.lever
 
--- the lever of the line that names fewer free levers: that of the lines so far, or of one more
-abbrev pub fewer_of : Next → ℕ → ℕ → Next
-fewer_of Shown free lever = Lever lever free
-fewer_of Clear free lever = Lever lever free
-fewer_of (Lever k fewest) free lever = cond (nat_lt free fewest) (Lever lever free) (Lever k fewest)
+-- the choice with fewer free levers, of two that there may be
+abbrev pub fewer_of : Option Choice → Option Choice → Option Choice
+fewer_of best None = best
+fewer_of None (Some choice) = Some choice
+fewer_of (Some best) (Some choice) = if nat_le best.free choice.free then Some best else Some choice
 
--- how many levers below n the group leaves free
+-- how many of the places below n the group leaves free
 abbrev pub free_below : Placed → ℕ → ℕ
 free_below g zero = 0
 free_below g (suc n) = cond (is_some (sign_on g n)) (free_below g n) (suc (free_below g n))
 
+-- how many of all places the group leaves free
+unfoldable pub free_places : Placed → ℕ
+free_places g = free_below g 32
+
 -- the group with one more lever, with + and with -: fewer levers are left free, what is found with + is found, and
 -- where nothing is found with + the search with - decides
-pub record Halved (n : ℕ) (set plus minus : Placed) : Type 0 where
-  pub plus_fewer : free_below plus n < free_below set n
-  pub minus_fewer : free_below minus n < free_below set n
-  pub found : (lines : List Placed) → SearchedOver n lines plus true → SearchedOver n lines set true
-  pub other : (lines : List Placed) (r : Bool) → SearchedOver n lines plus false → SearchedOver n lines minus r → SearchedOver n lines set r
+pub record Halved (levers : Levers) (set plus minus : Placed) : Type 0 where
+  pub plus_fewer : free_places plus < free_places set
+  pub minus_fewer : free_places minus < free_places set
+  pub found : (lines : List Placed) → SearchedOver levers lines plus true → SearchedOver levers lines set true
+  pub other : (lines : List Placed) (r : Bool) → SearchedOver levers lines plus false → SearchedOver levers lines minus r → SearchedOver levers lines set r

@@ -2,21 +2,27 @@
 // specs/Deciding.antt what is told of one line.
 #![tactic(auto)]
 
-ghost use Rattle.std.specs.Prelude.{◌≡◌, ℕ, ◌<◌, ◌≤◌, true, false, length, slice_index_or, slice_set};
+ghost use Rattle.std.specs.Prelude.{◌≡◌, ◌++◌, true, List, length};
+ghost use Rattle.fixed.specs.Rows.{held};
+ghost use Rattle.levers.specs.Sets.{has};
+ghost use Rattle.groups.specs.Rises.{climbing};
+ghost use Rattle.meaning.specs.Crews.{Lawful};
 ghost use Rattle.meaning.specs.CutLists.{IsCutList};
+ghost use Rattle.placed.specs.declared.Placed.{Placed};
 ghost use Rattle.placed.specs.Spelling.{spell};
 ghost use Rattle.rows.specs.Rows.{groups_of, spell_all, AllWithin};
 ghost use Rattle.frames.specs.Fitted.{fitted};
 ghost use Rattle.managing.specs.Standing.{frame_of};
-ghost use Rattle.cutting.specs.Deciding.{Told, Asked};
-ghost use Rattle.cutting.specs.Flags.{no_group, on_lines};
+ghost use Rattle.cutting.specs.Deciding.{Told};
+ghost use Rattle.cutting.specs.Searching.{LeversOf};
 
-use self::search::escapes;
+use self::search::Search;
 use crews::crew::Crew;
+use fixed::row::Row;
 use frames::plates::Plates;
-use managing::manages;
+use levers::Levers;
+use managing::manned::Manned;
 use placed::Placed;
-use rows::row::Row;
 
 mod search;
 
@@ -25,80 +31,49 @@ pub const MOST_LINES: usize = 128;
 
 // The cut list of the lines of a frame: from the last line to the first, a line is left out if the others still on the
 // list permit no setting that shows it.
-pub fn cut_list<C: Crew>(crew: &C, plates: &Plates, lines: &Row<128>) -> Row<128>
-    ensures cut { IsCutList (frame_of (C.Crew.admitted crew.now) (fitted plates.now) (groups_of lines.now)) (spell_all (fitted plates.now) (groups_of result)) }
-    ensures within { AllWithin (length (fitted plates.now)) (groups_of lines.now) → AllWithin (length (fitted plates.now)) (groups_of result) }
+#[tactic(auto, using(crate::proofs::Marking::none_gone, crate::proofs::Marking::one_gone, crate::proofs::Marking::one_kept, crate::proofs::Marking::all_gone))]
+pub fn cut_list<C: Crew>(
+    frame: Manned<'_, C>,
+    lines: &Row<Placed, MOST_LINES>,
+) -> Row<Placed, MOST_LINES>
+    ensures cut { IsCutList (frame_of (C.Crew.admitted frame.entry.crew.now) (fitted frame.entry.plates.now) (groups_of lines.now)) (spell_all (fitted frame.entry.plates.now) (groups_of result)) }
+    ensures within { AllWithin (length (fitted frame.entry.plates.now)) (groups_of lines.now) → AllWithin (length (fitted frame.entry.plates.now)) (groups_of result) }
 {
-    cut(crew, plates, lines)
-}
-
-// Marks the lines that stay, and takes those.
-fn cut<C: Crew>(crew: &C, plates: &Plates, lines: &Row<128>) -> Row<128>
-    ensures cut { IsCutList (frame_of (C.Crew.admitted crew.now) (fitted plates.now) (groups_of lines.now)) (spell_all (fitted plates.now) (groups_of result)) }
-    ensures within { AllWithin (length (fitted plates.now)) (groups_of lines.now) → AllWithin (length (fitted plates.now)) (groups_of result) }
-{
-    let all = lines.all();
-    let mut on = [true; MOST_LINES];
-    mark_all(crew, plates, all, &mut on);
-    kept(all, &on)
-}
-
-// Goes through the lines from the last to the first, and leaves on those that stay.
-fn mark_all<C: Crew>(crew: &C, plates: &Plates, lines: &[Placed], on: &mut [bool])
-    requires flags { length lines.now ≤ length on.old }
-    requires all { (k : ℕ) → k < length lines.now → slice_index_or on.old k false ≡ true }
-    ensures { IsCutList (frame_of (C.Crew.admitted crew.now) (fitted plates.now) lines.now) (spell_all (fitted plates.now) (on_lines on.new lines.now)) }
-{
-    for i in (0..lines.len()).rev() {
-        mark(crew, plates, lines, on, i);
-    }
-}
-
-// Takes one line off the list, and puts it back if the others need it.
-fn mark<C: Crew>(crew: &C, plates: &Plates, lines: &[Placed], on: &mut [bool], i: usize)
-    requires flags { length lines.now ≤ length on.old }
-    requires line { i < length lines.now }
-    ensures told { Told (frame_of (C.Crew.admitted crew.now) (fitted plates.now) lines.now) (spell_all (fitted plates.now) (on_lines (slice_set on.old i false) lines.now)) (spell (fitted plates.now) (slice_index_or lines.now i no_group)) (slice_index_or on.new i false) }
-    ensures others { on.new ≡ slice_set (slice_set on.old i false) i (slice_index_or on.new i false) }
-{
-    on[i] = false;
-    on[i] = stays(crew, plates, lines, on, lines[i]);
-}
-
-// Whether a line stays on the list with the lines that are on.
-fn stays<C: Crew>(crew: &C, plates: &Plates, lines: &[Placed], on: &[bool], line: Placed) -> bool
-    requires flags { length lines.now ≤ length on.now }
-    ensures { Told (frame_of (C.Crew.admitted crew.now) (fitted plates.now) lines.now) (spell_all (fitted plates.now) (on_lines on.now lines.now)) (spell (fitted plates.now) line) result }
-{
-    can_stay(crew, plates, line) && escapes(lines, on, levers_of(plates), line)
-}
-
-// Whether the crew can manage a line.
-fn can_stay<C: Crew>(crew: &C, plates: &Plates, line: Placed) -> bool
-    ensures { Asked (C.Crew.admitted crew.now) (fitted plates.now) line result }
-{
-    manages(crew, plates, line)
-}
-
-// How many levers are fitted.
-fn levers_of(plates: &Plates) -> usize
-    ensures count { result ≡ length (fitted plates.now) }
-    ensures few { result ≤ 32 }
-{
-    plates.all().len()
-}
-
-// The lines that are on, in their order.
-fn kept(lines: &[Placed], on: &[bool]) -> Row<128>
-    requires flags { length lines.now ≤ length on.now }
-    requires few { length lines.now ≤ 128 }
-    ensures { groups_of result ≡ on_lines on.now lines.now }
-{
-    let mut row = Row::new();
-    for (i, line) in lines.iter().enumerate() {
-        if on[i] {
-            let _ = row.push(*line);
+    let levers = levers_of(frame.plates);
+    let mut kept = Row::new(Placed::empty());
+    let mut rest = lines.all();
+    while let Some((line, before)) = rest.split_last() {
+        let search = Search {
+            before,
+            behind: kept.all(),
+            levers,
+        };
+        if stays(frame, search, *line) {
+            let _ = kept.insert(0, *line);
         }
+        rest = before;
     }
-    row
+    kept
+}
+
+// Whether a line stays on the list with the lines of a search.
+#[tactic(auto, using(crate::proofs::Asking::told_searched, crate::proofs::Asking::told_unmanaged))]
+fn stays<C: Crew>(frame: Manned<'_, C>, search: Search<'_>, line: Placed) -> bool
+    requires lawful { Lawful (C.Crew.admitted frame.crew.now) }
+    requires rises { climbing 0 (fitted frame.plates.now) ≡ true }
+    requires levers { LeversOf (fitted frame.plates.now) search.levers }
+    ensures { (lines : List Placed) → Told (frame_of (C.Crew.admitted frame.entry.crew.now) (fitted frame.entry.plates.now) lines) (spell_all (fitted frame.entry.plates.now) (search.entry.before.now ++ search.entry.behind.now)) (spell (fitted frame.entry.plates.now) line) result }
+{
+    frame.manages(line) && search.escapes(line)
+}
+
+// The levers of a frame: a place for each plate.
+fn levers_of(plates: &Plates) -> Levers
+    ensures { LeversOf (fitted plates.now) result }
+{
+    let mut levers = Levers::none();
+    for place in 0..plates.all().len() {
+        levers = levers.with(place);
+    }
+    levers
 }

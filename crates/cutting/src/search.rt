@@ -1,36 +1,30 @@
 // The search for a setting that shows a group and none of some lines. specs/Searching.antt says what is told.
-ghost use Rattle.std.specs.Prelude.{◌≡◌, ◌≤◌, length};
-ghost use Rattle.cutting.specs.Flags.{on_lines};
-ghost use Rattle.cutting.specs.Searching.{SearchedOver, Judged, Stands, FreeAt, Halved, bearing_of, fewer_of};
+ghost use Rattle.std.specs.Prelude.{◌≡◌, ◌++◌, List, Ok};
+ghost use Rattle.levers.specs.Sets.{has};
+ghost use Rattle.placed.specs.declared.Placed.{Placed};
+ghost use Rattle.cutting.specs.Searching.{SearchedOver, Judged, Surveyed, Weighed, FreeAt, Halved, fewer_of};
 
 use groups::items::Sign;
+use levers::Levers;
 use placed::Placed;
 
-// How a line's sign on one lever bears on whether the line is shown: it holds in each setting that shows the group; it
-// fails where the levers that the group leaves free rest; or it waits on such a lever.
+// The lines that a search is to hide, in two parts, and the levers of the frame.
 #[derive(Clone, Copy)]
-enum Bearing {
-    Meets,
-    Fails,
-    Waits,
+pub(super) struct Search<'a> {
+    pub(super) before: &'a [Placed],
+    pub(super) behind: &'a [Placed],
+    pub(super) levers: Levers,
 }
 
-// How one line stands to the group: each setting that shows the group shows the line; no setting that rests wherever the
-// group lets it does; or some levers are still to be tried, how many and the lowest.
+// A line is shown in each setting that shows the group.
 #[derive(Clone, Copy)]
-enum Standing {
-    Covers,
-    Dead,
-    Live(usize, usize),
-}
+struct Shown;
 
-// What to do next: a line is shown in any case; no line is shown if the free levers rest; or a lever to try, and how many
-// free levers its line names.
+// A lever to try: the lowest of the free levers that a line waits on, and how many these are.
 #[derive(Clone, Copy)]
-enum Next {
-    Shown,
-    Clear,
-    Lever(usize, usize),
+struct Choice {
+    lever: usize,
+    free: u32,
 }
 
 // A group with one more lever, with + and with -.
@@ -40,107 +34,85 @@ struct Halves {
     minus: Placed,
 }
 
-// Whether there is a setting that shows the group and none of the lines that are on. A lever that the group does not name
-// is tried with + and with -.
-pub(super) fn escapes(lines: &[Placed], on: &[bool], places: usize, set: Placed) -> bool
-    requires few { places ≤ 32 }
-    requires flags { length lines.now ≤ length on.now }
-    ensures { SearchedOver places (on_lines on.now lines.now) set result }
-{
-    match judge(lines, on, places, set) {
-        Next::Shown => false,
-        Next::Clear => true,
-        Next::Lever(place, _) => {
-            let halves = split(set, places, place);
-            escapes(lines, on, places, halves.plus) || escapes(lines, on, places, halves.minus)
+impl<'a> Search<'a> {
+    // Whether there is a setting that shows the group and none of the lines. A lever that the group does not name is tried
+    // with + and with -.
+    pub(super) fn escapes(&self, set: Placed) -> bool
+        ensures { SearchedOver self.now.levers (self.now.before.now ++ self.now.behind.now) set result }
+    {
+        match self.judge(set) {
+            Err(Shown) => false,
+            Ok(None) => true,
+            Ok(Some(choice)) => {
+                let halves = split(self.levers, set, choice.lever);
+                self.escapes(halves.plus) || self.escapes(halves.minus)
+            }
         }
+    }
+
+    // What the lines leave to do: nothing, as no line is shown where the free levers rest, or a lever to try.
+    fn judge(&self, set: Placed) -> Result<Option<Choice>, Shown>
+        ensures { Judged self.now.levers (self.now.before.now ++ self.now.behind.now) set result }
+    {
+        let choice = survey(self.before, self.levers, set, None)?;
+        survey(self.behind, self.levers, set, choice)
     }
 }
 
 // The group with a lever that it leaves free, with + and with -.
-fn split(set: Placed, places: usize, place: usize) -> Halves
-    requires few { places ≤ 32 }
-    requires free { FreeAt places set place }
-    ensures { Halved places set result.plus result.minus }
+#[tactic(auto, using(crate::proofs::Escaping::halved))]
+fn split(levers: Levers, set: Placed, lever: usize) -> Halves
+    requires { FreeAt levers set lever }
+    ensures { Halved levers set result.plus result.minus }
 {
     Halves {
-        plus: set.with(place, Sign::Plus),
-        minus: set.with(place, Sign::Minus),
+        plus: set.with(lever, Sign::Plus),
+        minus: set.with(lever, Sign::Minus),
     }
 }
 
-// What the lines that are on leave to do. The lever is one of a line that names the fewest free levers, so that the lines
-// that are nearly shown are settled first.
-fn judge(lines: &[Placed], on: &[bool], places: usize, set: Placed) -> Next
-    requires flags { length lines.now ≤ length on.now }
-    ensures { Judged places (on_lines on.now lines.now) set result }
+// What some lines leave to do, after others that left a choice. The choice is that of a line with the fewest free levers, so
+// that the lines that are nearly shown are settled first.
+fn survey(
+    lines: &[Placed],
+    levers: Levers,
+    set: Placed,
+    others: Option<Choice>,
+) -> Result<Option<Choice>, Shown>
+    ensures { (before : List Placed) → Surveyed levers before set (Ok others) → Surveyed levers (before ++ lines.now) set result }
 {
-    let mut next = Next::Clear;
-    for (i, line) in lines.iter().enumerate() {
-        if on[i] {
-            match weigh(*line, places, set) {
-                Standing::Covers => return Next::Shown,
-                Standing::Dead => {}
-                Standing::Live(free, lever) => next = fewer(next, free, lever),
-            }
-        }
+    let mut best = others;
+    for line in lines {
+        best = fewer(best, weigh(*line, levers, set)?);
     }
-    next
+    Ok(best)
 }
 
-// The lever of the line that names fewer free levers.
-fn fewer(next: Next, free: usize, lever: usize) -> Next
-    ensures { result ≡ fewer_of next free lever }
+// The choice with fewer free levers, of two that there may be.
+fn fewer(best: Option<Choice>, next: Option<Choice>) -> Option<Choice>
+    ensures { result ≡ fewer_of best next }
 {
-    match next {
-        Next::Lever(place, fewest) => {
-            if free < fewest {
-                Next::Lever(lever, free)
-            } else {
-                Next::Lever(place, fewest)
-            }
-        }
-        Next::Shown => Next::Lever(lever, free),
-        Next::Clear => Next::Lever(lever, free),
+    match (best, next) {
+        (_, None) => best,
+        (Some(choice), Some(other)) if choice.free <= other.free => best,
+        _ => next,
     }
 }
 
-// How a line stands to the group.
-fn weigh(line: Placed, places: usize, set: Placed) -> Standing
-    ensures { Stands places line set result }
+// How a line stands to the group: shown with it, not shown where the free levers rest, or waiting on some of these.
+fn weigh(line: Placed, levers: Levers, set: Placed) -> Result<Option<Choice>, Shown>
+    ensures { Weighed levers line set result }
 {
-    let mut free = 0;
-    let mut lever = 0;
-    for place in 0..places {
-        match bears(line.sign(place), set.sign(place)) {
-            Bearing::Meets => {}
-            Bearing::Fails => return Standing::Dead,
-            Bearing::Waits => {
-                if free == 0 {
-                    lever = place;
-                }
-                free += 1;
-            }
-        }
+    let lacking = set.lacking(line).intersection(levers);
+    let settled = set.named().union(line.between());
+    if !lacking.intersection(settled).is_none() {
+        return Ok(None);
     }
-    if free == 0 {
-        Standing::Covers
-    } else {
-        Standing::Live(free, lever)
-    }
-}
-
-// How a line's sign on a lever, if it has one, bears on the line where the group has the second sign.
-fn bears(line: Option<Sign>, set: Option<Sign>) -> Bearing
-    ensures { result ≡ bearing_of line set }
-{
-    match (line, set) {
-        (None, _) => Bearing::Meets,
-        (Some(Sign::Star), None) => Bearing::Fails,
-        (Some(_), None) => Bearing::Waits,
-        (Some(_), Some(Sign::Star)) => Bearing::Meets,
-        (Some(Sign::Plus), Some(Sign::Plus)) => Bearing::Meets,
-        (Some(Sign::Minus), Some(Sign::Minus)) => Bearing::Meets,
-        (Some(_), Some(_)) => Bearing::Fails,
+    match lacking.first() {
+        None => Err(Shown),
+        Some(lever) => Ok(Some(Choice {
+            lever,
+            free: lacking.count(),
+        })),
     }
 }

@@ -1,4 +1,5 @@
 pub mod Ends
+pub mod Missing
 pub mod Ordered
 pub mod Own
 pub mod Spelled

@@ -1,3 +1,4 @@
+pub mod Lacking
 pub mod Laws
 pub mod Order
 pub mod Rises

@@ -1,7 +1,7 @@
 // Groups to compute with: two sets of levers by their places in a frame, one for each end of a lever.
 // specs/Spelling.antt says what such a group spells; covering, equality and combining on the sets are those of the
 // spelled items (groups/specs/Items.antt), which specs/Laws.antt states over any frame.
-// src/order.rt has the table's order.
+// src/order.rt has the table's order, src/lacking.rt what a group lacks of another.
 #![tactic(auto)]
 
 ghost use Rattle.std.specs.Prelude.{◌≡◌, ℕ, ◌&&◌, if◌then◌else◌, Some, None, Decides, nat_eq, nat_lt};
@@ -14,6 +14,7 @@ ghost use Rattle.placed.specs.Signs.{sign_on, without_end, has_end, opposed_sign
 use groups::items::Sign;
 use levers::Levers;
 
+pub mod lacking;
 pub mod order;
 
 // An end of a lever.

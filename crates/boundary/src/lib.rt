@@ -16,10 +16,12 @@ use self::writing::write_groups;
 use crews::any::AnyCrew;
 use crews::crew::Crew;
 use cutting::{MOST_LINES, cut_list};
+use fixed::row::Row;
 use frames::plates::Plates;
 use groups::group::Group;
-use growing::grow;
-use rows::row::Row;
+use growing::{MOST_GROUPS, grow};
+use managing::manned::Manned;
+use placed::Placed;
 
 mod reading;
 mod refused;
@@ -44,10 +46,11 @@ pub extern "C" fn boundary_table(
 ) -> usize {
     let plates = plates_up_to(levers);
     // One engine for each crew: with one that takes any crew, a table takes a sixth more time.
+    let plates = &plates;
     let table = match crew_of(kind, number) {
-        AnyCrew::Free(crew) => enter_all(&crew, &plates, lines, answers),
-        AnyCrew::Hands(crew) => enter_all(&crew, &plates, lines, answers),
-        AnyCrew::Split(crew) => enter_all(&crew, &plates, lines, answers),
+        AnyCrew::Free(crew) => enter_all(Manned { crew: &crew, plates }, lines, answers),
+        AnyCrew::Hands(crew) => enter_all(Manned { crew: &crew, plates }, lines, answers),
+        AnyCrew::Split(crew) => enter_all(Manned { crew: &crew, plates }, lines, answers),
     };
     write_groups(table.all(), groups);
     table.all().len()
@@ -64,18 +67,26 @@ pub extern "C" fn boundary_cut(
 ) -> usize {
     let plates = plates_up_to(levers);
     let row = read_all(&plates, lines);
-    let list = cut_list(&crew_of(kind, number), &plates, &row);
+    let frame = Manned {
+        crew: &crew_of(kind, number),
+        plates: &plates,
+    };
+    let list = cut_list(frame, &row);
     write_groups(list.all(), groups);
     list.all().len()
 }
 
 // The table of the lines, entered one after the other; a line that is refused is left out. What became of each is written
 // where it has a place.
-fn enter_all<C: Crew>(crew: &C, plates: &Plates, lines: &[u8], answers: &mut [u8]) -> Row<512> {
-    let mut table = Row::new();
+fn enter_all<C: Crew>(
+    frame: Manned<'_, C>,
+    lines: &[u8],
+    answers: &mut [u8],
+) -> Row<Placed, MOST_GROUPS> {
+    let mut table = Row::new(Placed::empty());
     let mut answers = answers.iter_mut();
     for bytes in lines.chunks(LINE_BYTES).take(MOST_LINES) {
-        let entered = enter(crew, plates, &mut table, &line_of(bytes));
+        let entered = enter(frame, &mut table, &line_of(bytes));
         if let Some(answer) = answers.next() {
             *answer = entered.err().map_or(ENTERED, u8::from);
         }
@@ -85,22 +96,21 @@ fn enter_all<C: Crew>(crew: &C, plates: &Plates, lines: &[u8], answers: &mut [u8
 
 // Enters one line.
 fn enter<C: Crew>(
-    crew: &C,
-    plates: &Plates,
-    table: &mut Row<512>,
+    frame: Manned<'_, C>,
+    table: &mut Row<Placed, MOST_GROUPS>,
     line: &Group,
 ) -> Result<(), Refused>
-    requires { AllWithin (length (fitted plates.now)) (groups_of table.old) }
-    ensures { AllWithin (length (fitted plates.now)) (groups_of table.new) }
+    requires { AllWithin (length (fitted frame.plates.now)) (groups_of table.old) }
+    ensures { AllWithin (length (fitted frame.entry.plates.now)) (groups_of table.new) }
 {
-    let line = plates.place(line)?;
-    *table = grow(crew, plates, table, line)?;
+    let line = frame.plates.place(line)?;
+    *table = grow(frame, table, line)?;
     Ok(())
 }
 
 // The lines whose plates are fitted.
-fn read_all(plates: &Plates, lines: &[u8]) -> Row<128> {
-    let mut row = Row::new();
+fn read_all(plates: &Plates, lines: &[u8]) -> Row<Placed, MOST_LINES> {
+    let mut row = Row::new(Placed::empty());
     for bytes in lines.chunks(LINE_BYTES).take(MOST_LINES) {
         if let Ok(line) = plates.place(&line_of(bytes)) {
             let _ = row.push(line);

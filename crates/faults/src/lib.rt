@@ -102,11 +102,22 @@ impl Refusal {
     pub fn at(self, place: Place) -> Fault
         ensures { result ≡ fault_of self place }
     {
-        let number = self.number();
         Fault {
-            number,
-            layer: layer_of(number),
+            number: self.number(),
+            layer: self.layer(),
             place,
+        }
+    }
+
+    // The layer that refuses.
+    fn layer(self) -> Layer
+        ensures { result ≡ layer_of (number_of self) }
+    {
+        match self.number() {
+            0..=5 => Layer::Text,
+            6..=9 => Layer::Frame,
+            10..=15 => Layer::Sheet,
+            _ => Layer::Journal,
         }
     }
 
@@ -116,18 +127,6 @@ impl Refusal {
     {
         let fault = self.at(Place::Byte(byte));
         TextFault { fault }
-    }
-}
-
-// The layer that refuses with a number.
-fn layer_of(number: u8) -> Layer
-    ensures { result ≡ layer_of number }
-{
-    match number {
-        0..=5 => Layer::Text,
-        6..=9 => Layer::Frame,
-        10..=15 => Layer::Sheet,
-        _ => Layer::Journal,
     }
 }
 

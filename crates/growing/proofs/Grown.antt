@@ -25,7 +25,8 @@ use Rattle.meaning.proofs.Shrinking.{table_covers}
 use Rattle.meaning.proofs.SomeCutList.{setting_fails}
 use Rattle.meaning.proofs.Trial.{every_setting, excludes, excluded_tried}
 use Rattle.placed.specs.declared.Placed.{Placed}
-use Rattle.placed.specs.Signs.{has_upper, has_lower}
+use Rattle.placed.specs.declared.End.TheVariants.{Upper, Lower}
+use Rattle.placed.specs.Signs.{has_end}
 use Rattle.placed.specs.Spelling.{spell}
 use Rattle.placed.proofs.Ends.{blank}
 use Rattle.placed.proofs.Spelled.{spelled_none, spelled_rises}
@@ -64,10 +65,10 @@ has_append_cases (y ∷ xs) ys x h =
     (λ t. ⊎_elim (λ m. inl (has_later y x xs m)) inr (has_append_cases xs ys x t))
     (has_cases y x (xs ++ ys) h)
 
-upper_end : (o : Option Sign) → has_upper o ≡ ends o upper
+upper_end : (o : Option Sign) → has_end Upper o ≡ ends o upper
 upper_end o = grind arith
 
-lower_end : (o : Option Sign) → has_lower o ≡ ends o lower
+lower_end : (o : Option Sign) → has_end Lower o ≡ ends o lower
 lower_end o = grind arith
 
 module _ (a : Asked) (lines : List (List Item)) (ready : Ready a) where
@@ -112,8 +113,8 @@ module _ (a : Asked) (lines : List (List Item)) (ready : Ready a) where
         g = spell a.plates n
 
         at_end : (h : List Item) → Forbidden grown_frame h → covers h g ≡ true → (j : ℕ) → j < length ps → (e : End) → ends (sign_at g (get_or ps j 0)) e ≡ true → ends (sign_at h (get_or ps j 0)) e ≡ true
-        at_end h fh c j l upper q = sym (upper_end (sign_at h (get_or ps j 0))) ∙ (f.firm j l).0 h fh.fitted c ((tells_forbidden_lem h fh.fitted fh.managed).1 fh) (upper_end (sign_at g (get_or ps j 0)) ∙ q)
-        at_end h fh c j l lower q = sym (lower_end (sign_at h (get_or ps j 0))) ∙ (f.firm j l).1 h fh.fitted c ((tells_forbidden_lem h fh.fitted fh.managed).1 fh) (lower_end (sign_at g (get_or ps j 0)) ∙ q)
+        at_end h fh c j l upper q = sym (upper_end (sign_at h (get_or ps j 0))) ∙ f.firm j l Upper h fh.fitted c ((tells_forbidden_lem h fh.fitted fh.managed).1 fh) (upper_end (sign_at g (get_or ps j 0)) ∙ q)
+        at_end h fh c j l lower q = sym (lower_end (sign_at h (get_or ps j 0))) ∙ f.firm j l Lower h fh.fitted c ((tells_forbidden_lem h fh.fitted fh.managed).1 fh) (lower_end (sign_at g (get_or ps j 0)) ∙ q)
 
         kept : (h : List Item) → Forbidden grown_frame h → covers h g ≡ true → (q : ℕ) → ((j : ℕ) × (j < length ps) × (get_or ps j 0 ≡ q)) ⊎ ((j : ℕ) → j < length ps → get_or ps j 0 ≡ q → ⊥) → (e : End) → ends (sign_at g q) e ≡ true → ends (sign_at h q) e ≡ true
         kept h fh c q (inl m) e z = subst (λ p. ends (sign_at g p) e ≡ true → ends (sign_at h p) e ≡ true) m.2 (at_end h fh c m.0 m.1 e) z

@@ -14,8 +14,7 @@ use crews::crew::Crew;
 use fixed::methods::Full;
 use fixed::row::Row;
 use placed::Placed;
-use telling::shortening::shorten;
-use telling::{covered, tells};
+use telling::{OneMore, covered};
 
 impl<'a, C: Crew> Growth<'a, C> {
     // The line and all combinations, each shortened. Refused where more than 512 groups come up.
@@ -32,12 +31,7 @@ impl<'a, C: Crew> Growth<'a, C> {
     pub(super) fn tells(&self, group: Placed) -> bool
         ensures { result ≡ told_of (asked_of C.Crew.admitted self.now) (spell (fitted self.now.frame.plates.now) group) }
     {
-        tells(
-            self.table.all(),
-            self.line,
-            self.frame.plates.all().len(),
-            group,
-        )
+        self.one_more().tells(group)
     }
 
     // What is left of a group that is forbidden with the line, without each end that can go.
@@ -46,12 +40,20 @@ impl<'a, C: Crew> Growth<'a, C> {
         requires told { told_of (asked_of C.Crew.admitted self.now) (spell (fitted self.now.frame.plates.now) group) ≡ true }
         ensures { ShortenedFor (asked_of C.Crew.admitted self.now) group result }
     {
-        shorten(
-            self.table.all(),
-            self.line,
-            self.frame.plates.all().len(),
-            group,
-        )
+        self.one_more().shorten(group)
+    }
+
+    // The table and the line, over the levers of the frame.
+    fn one_more(&self) -> OneMore<'_>
+        ensures table { result.table.now ≡ groups_of self.now.table.now }
+        ensures line { result.line ≡ self.now.line }
+        ensures places { result.places ≡ length (fitted self.now.frame.plates.now) }
+    {
+        OneMore {
+            table: self.table.all(),
+            line: self.line,
+            places: self.frame.plates.all().len(),
+        }
     }
 
     // Combines each new group, also those that come up meanwhile, with those of the table and the new ones before it.

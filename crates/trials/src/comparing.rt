@@ -9,6 +9,7 @@ use frames::plates::Plates;
 use groups::group::Group;
 use groups::items::{Item, Sign};
 use growing::Stop;
+use managing::manned::Manned;
 use placed::Placed;
 use std::alloc::{AllocError, Global};
 use std::fmt;
@@ -87,19 +88,17 @@ pub fn compare<C: Crew>(
     let plates = frame.plates.as_slice();
     let trial = try_all(heap, crew, plates, frame.lines.as_slice())?;
     let groups = spell_all(heap, plates, frame.lines.as_slice())?;
-    let agreed = Plates::try_from(plates).is_ok_and(|fitted| runs_like(
-        crew,
-        &fitted,
-        groups.as_slice(),
-        &trial,
-    ));
+    let agreed = Plates::try_from(plates).is_ok_and(|plates| {
+        let plates = &plates;
+        runs_like(Manned { crew, plates }, groups.as_slice(), &trial)
+    });
     tally.count(&trial, agreed);
     Ok(())
 }
 
 // Whether the engine makes of the lines what the trial does.
-fn runs_like<C: Crew>(crew: &C, plates: &Plates, groups: &[Group], trial: &Trial) -> bool {
-    run_lines(crew, plates, groups).is_ok_and(|outcome| agrees(plates, &outcome, trial))
+fn runs_like<C: Crew>(frame: Manned<'_, C>, groups: &[Group], trial: &Trial) -> bool {
+    run_lines(frame, groups).is_ok_and(|outcome| agrees(frame.plates, &outcome, trial))
 }
 
 // Whether both have the same lines in force, the same table and the same cut list.

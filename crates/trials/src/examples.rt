@@ -10,6 +10,7 @@ use groups::group::Group;
 use groups::items::{Item, Sign};
 use growing::Stop;
 use lines::line::Line;
+use managing::manned::Manned;
 use placed::Placed;
 use reading::reader::read_group;
 use std::alloc::{AllocError, Global};
@@ -175,7 +176,7 @@ fn run<C: Crew>(heap: Global, crew: &C, lines: &[Group]) -> Result<Option<Ran>, 
     let Some(plates) = frame_of_groups(heap, lines)? else {
         return Ok(None);
     };
-    let ran = run_lines(crew, &plates, lines).map(|outcome| Ran { plates, outcome });
+    let ran = run_lines(Manned { crew, plates: &plates }, lines).map(|outcome| Ran { plates, outcome });
     Ok(ran.ok())
 }
 

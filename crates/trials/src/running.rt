@@ -1,11 +1,13 @@
 // Lines through the engine.
 use crews::crew::Crew;
-use cutting::cut_list;
+use cutting::{MOST_LINES, cut_list};
 use faults::Fault;
+use fixed::row::Row;
 use frames::plates::Plates;
 use groups::group::Group;
-use growing::{Stop, grow};
-use rows::row::Row;
+use growing::{MOST_GROUPS, Stop, grow};
+use managing::manned::Manned;
+use placed::Placed;
 use std::alloc::{AllocError, Global};
 use std::fmt;
 
@@ -13,8 +15,8 @@ use std::fmt;
 // next, if there is one that was stopped.
 #[derive(Clone, Copy)]
 pub struct Outcome {
-    pub table: Row<512>,
-    pub cut: Row<128>,
+    pub table: Row<Placed, MOST_GROUPS>,
+    pub cut: Row<Placed, MOST_LINES>,
     pub lines: usize,
     pub stop: Option<Stop>,
 }
@@ -37,13 +39,13 @@ impl fmt::Display for Outcome {
 }
 
 // Grows the table line by line, to the end or to the first line that is stopped. Refused: a plate that is not fitted.
-pub fn run_lines<C: Crew>(crew: &C, plates: &Plates, groups: &[Group]) -> Result<Outcome, Fault> {
-    let mut table = Row::new();
-    let mut lines = Row::new();
+pub fn run_lines<C: Crew>(frame: Manned<'_, C>, groups: &[Group]) -> Result<Outcome, Fault> {
+    let mut table = Row::new(Placed::empty());
+    let mut lines = Row::new(Placed::empty());
     let mut stop = None;
     for group in groups {
-        let line = plates.place(group)?;
-        match grow(crew, plates, &table, line) {
+        let line = frame.plates.place(group)?;
+        match grow(frame, &table, line) {
             Ok(grown) => table = grown,
             Err(reason) => {
                 stop = Some(reason);
@@ -54,7 +56,7 @@ pub fn run_lines<C: Crew>(crew: &C, plates: &Plates, groups: &[Group]) -> Result
     }
     Ok(Outcome {
         table,
-        cut: cut_list(crew, plates, &lines),
+        cut: cut_list(frame, &lines),
         lines: lines.all().len(),
         stop,
     })

@@ -1,4 +1,4 @@
-use Rattle.std.proofs.Common.{List, length, sym, ap, subst}
+use Rattle.std.proofs.Common.{ℕ, List, refl, subst}
 use Rattle.placed.specs.declared.Placed.{Placed}
 use Rattle.telling.specs.Shortened.{WhereTold, Shortened}
 use Rattle.growing.specs.Gathered.{asked_of}
@@ -9,4 +9,10 @@ pub returns : goal.returns
 returns g c =
     let a = asked_of g.C.Crew.admitted c.args.self.now in
     let ready = ready_of g.C.Crew.admitted c.args.self.now in
-    subst (λ (ts : List Placed). WhereTold ts a.line (length c.all-2.result.now) c.args.group (Shortened c.args.group c.shorten.result)) c.all.ensures c.shorten.ensures a.plates (holds_of a ready) (ap length (sym c.all-2.ensures)) c.requires.within c.requires.told
+    let m = c.one_more.result in
+    let group = c.args.group in
+    let short = Shortened group c.shorten.result in
+    let by_places = subst (λ (n : ℕ). WhereTold m.table.now m.line n group short) c.one_more.ensures.places c.shorten.ensures in
+    let by_line = subst (λ (l : Placed). WhereTold m.table.now l _ group short) c.one_more.ensures.line by_places in
+    let by_table = subst (λ (ts : List Placed). WhereTold ts _ _ group short) c.one_more.ensures.table by_line in
+    by_table a.plates (holds_of a ready) refl c.requires.within c.requires.told

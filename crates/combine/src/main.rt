@@ -84,7 +84,8 @@ fn report<W: Write>(heap: Global, input: &[u8], out: &mut W) -> io::Result<()> {
     out.write_all(line.text())
 }
 
-// Reads every line, and answers each. A line ends with a line feed or with the input.
+// Reads every line, and answers each. A line ends with a line feed or with the input. A `for`, which counts what is refused,
+// since an answer's writing may fail.
 fn read_lines<'a, W: Write>(heap: Global, input: &'a [u8], out: &mut W) -> io::Result<Lines<'a>> {
     let mut entries = Vec::new(heap);
     let mut plates = Vec::new(heap);

@@ -61,7 +61,7 @@ fn main(rt: HostRuntime) -> io::Result<()> {
     println!(rt; "a number of 4000 digits: {long}")
 }
 
-// How many of the groups are answered as they should be; prints the others.
+// How many of the groups are answered as they should be; prints the others. A `for`, here and below, since printing may fail.
 fn count_groups(rt: &HostRuntime) -> io::Result<u32> {
     let mut count: u32 = 0;
     for (text, expected) in GROUPS {

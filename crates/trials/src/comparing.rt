@@ -42,6 +42,7 @@ impl Tally {
 }
 
 impl fmt::Display for Tally {
+    // What was counted, in one line.
     fn fmt<W: fmt::Write>(&self, f: &mut fmt::Formatter<W>) -> fmt::Result {
         let frames = self.frames;
         let agreed = self.agreed;
@@ -56,8 +57,8 @@ impl fmt::Display for Tally {
     }
 }
 
-// The engine's sign.
 impl From<Mark> for Sign {
+    // The engine's sign.
     fn from(mark: Mark) -> Sign {
         match mark {
             Mark::Plus => Sign::Plus,
@@ -67,8 +68,8 @@ impl From<Mark> for Sign {
     }
 }
 
-// The trial's sign.
 impl From<Sign> for Mark {
+    // The trial's sign.
     fn from(sign: Sign) -> Mark {
         match sign {
             Sign::Plus => Mark::Plus,

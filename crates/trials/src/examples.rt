@@ -15,7 +15,7 @@ use placed::Placed;
 use reading::reader::read_group;
 use std::alloc::{AllocError, Global};
 
-// Lines, a crew, and their table.
+// Lines, a crew, and the table of the lines with this crew.
 type Small = (&'static [&'static str], AnyCrew, &'static [&'static str]);
 
 // Lines of which the last is not on the cut list. Either of the last two can be left out, but not both.

@@ -22,6 +22,7 @@ pub struct Outcome {
 }
 
 impl fmt::Display for Outcome {
+    // How many lines, groups and lines of the cut list there are, and what became of the next line.
     fn fmt<W: fmt::Write>(&self, f: &mut fmt::Formatter<W>) -> fmt::Result {
         let lines = self.lines;
         let groups = self.table.all().len();

@@ -26,6 +26,7 @@ impl Tried {
 }
 
 impl fmt::Display for Tried {
+    // What the crew is called.
     fn fmt<W: fmt::Write>(&self, f: &mut fmt::Formatter<W>) -> fmt::Result {
         match self {
             Tried::Hands(count) => write!(f, "hands, {count}"),

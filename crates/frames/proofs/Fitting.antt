@@ -1,13 +1,12 @@
 -- Where a plate stands among fitted ones, and one more plate behind them. Assumes nothing.
-use Rattle.std.proofs.Common.{cond, not, ◌+◌, ◌≡◌, ◌==◌, length-take, ℕ, zero, suc, ◌-◌, ◌<◌, ◌≤◌, true, ltb, List, [], ◌∷◌, ◌++◌, length, get_or, take, Some, None, sym, refl, ap, ◌∙◌, subst, ⊎_elim, arith}
+use Rattle.std.proofs.Common.{cond, not, ◌+◌, ◌≡◌, ◌==◌, ℕ, zero, suc, ◌-◌, ◌<◌, ◌≤◌, true, ltb, List, [], ◌∷◌, ◌++◌, length, get_or, take, Some, None, sym, refl, ap, ◌∙◌, subst, ⊎_elim, arith}
 use Rattle.std.specs.List.{position_or_len}
 use Rattle.std.proofs.lemmas.Bool.{lt-ltb, le-ltb, eq-eqb, ne_eqb, ltb-true, leb-true, and_parts, cond-true, cond-false, cases_eq}
 use Rattle.std.proofs.lemmas.Bool.Decides.{nat_tests, same_from_decides, Decides-ltb}
 use Rattle.groups.specs.Items.{is_plate}
 use Rattle.groups.specs.Rises.{climbing}
 use Rattle.groups.proofs.Climbing.{climbing_step, climbing_more, climbing_above, one_place, place_cases}
-use Rattle.frames.specs.declared.plates.Plates.{Plates}
-use Rattle.frames.specs.Fitted.{fitted, place_in, fit_refusal}
+use Rattle.frames.specs.Fitted.{place_in, fit_refusal}
 
 -- how many plates stand in front of one
 before : (ps : List ℕ) (p i : ℕ) → i < length ps → get_or ps i 0 ≡ p → ((k : ℕ) → k < i → get_or ps k 0 ≡ p → ⊥) → position_or_len (λ q. q == p) ps ≡ i
@@ -33,10 +32,6 @@ place_first ps p i l e n =
 pub place_none : (ps : List ℕ) (p : ℕ) → ((k : ℕ) → k < length ps → get_or ps k 0 ≡ p → ⊥) → place_in ps p ≡ None
 place_none ps p n =
     ap (λ j. cond (ltb j (length ps)) (Some j) None) (all_others ps p n) ∙ cond-false _ _ _ (le-ltb (length ps) (length ps) (omega arith))
-
--- at most 32 plates are fitted
-pub few_fitted : (f : Plates) → length (fitted f) ≤ 32
-few_fitted f = omega (arith, length-take f.plates.count f.plates.places, f.plates.few)
 
 -- of climbing plates each has one place
 pub place_at : (ps : List ℕ) (i : ℕ) → climbing 0 ps ≡ true → i < length ps → place_in ps (get_or ps i 0) ≡ Some i

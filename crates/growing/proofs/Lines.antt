@@ -17,7 +17,7 @@ use Rattle.managing.specs.Standing.{frame_of}
 use Rattle.growing.specs.declared.Stop.{Stop}
 use Rattle.growing.specs.declared.Stop.TheVariants.{NothingPossible, TooMany}
 use Rattle.growing.specs.Growth.{Fits, FitBelow, FromLines, GrowsTo, TableOr, OnlyEmpty}
-use Rattle.growing.proofs.Ready.{few_held}
+use Rattle.fixed.proofs.Few.{few_held}
 use Rattle.growing.proofs.Whole.{spell_empty}
 
 -- ## One line

@@ -1,12 +1,10 @@
 -- What holds of what is grown, by its type. Assumes nothing.
-use Rattle.std.proofs.Common.{◌≡◌, ℕ, ◌≤◌, true, length, arith}
-use Rattle.std.proofs.lemmas.List.{length-take-le}
+use Rattle.std.proofs.Common.{◌≡◌, ◌≤◌, true, length}
 use Rattle.groups.specs.Rises.{climbing}
 use Rattle.meaning.specs.Crews.{Admits}
-use Rattle.placed.specs.declared.Placed.{Placed}
 use Rattle.placed.specs.Signs.{Within}
-use Rattle.fixed.specs.declared.row.Row.{Row}
-use Rattle.rows.specs.Rows.{groups_of, AllWithin}
+use Rattle.fixed.proofs.Few.{few_held}
+use Rattle.rows.specs.Rows.{AllWithin}
 use Rattle.telling.specs.Told.{Holds}
 use Rattle.growing.specs.declared.growth.Growth.{Growth}
 use Rattle.growing.specs.Gathered.{Asked, asked_of}
@@ -23,14 +21,10 @@ ready_of means g =
     let p = g.frame.plates.now in
     record {
       climbs = p.rises;
-      few = omega (arith, length-take-le p.count p.plates (omega (arith, p.long, p.few)), p.few);
+      few = few_held p.plates;
       within = g.table_within;
       line = g.line_within;
     }
 
 pub holds_of : (a : Asked) → Ready a → Holds a.plates a.table
 holds_of a r = record { climbs = r.climbs; few = r.few; within = r.within }
-
--- a row holds no more than it has places for
-pub few_held : {n : ℕ} (r : Row Placed n) → length (groups_of r) ≤ n
-few_held r = omega (arith, length-take-le r.count r.places (omega (arith, r.long, r.few)), r.few)

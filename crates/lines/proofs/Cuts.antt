@@ -1,6 +1,7 @@
 -- Texts put one behind the other into a line. Assumes nothing.
-use Rattle.std.proofs.Common.{◌≡◌, Bool, true, false, cond, ltb, ltb-true, ltb-false, length-take, ℕ, zero, suc, ◌≤◌, List, [], ◌∷◌, ◌++◌, length, take, sym, refl, ap, ◌∙◌, append_assoc, append-nil, arith}
+use Rattle.std.proofs.Common.{◌≡◌, Bool, true, false, cond, ltb, ltb-true, ltb-false, ℕ, zero, suc, ◌≤◌, List, [], ◌∷◌, ◌++◌, length, take, sym, refl, ap, ◌∙◌, append_assoc, append-nil, arith}
 use Rattle.std.proofs.lemmas.List.{take_all, take_at, length_push}
+use Rattle.fixed.proofs.Few.{few_held}
 use Rattle.lines.specs.declared.line.Line.{Line}
 use Rattle.lines.specs.Lines.{text_of, cut}
 
@@ -31,7 +32,7 @@ put_byte text new b true few room e =
 put_byte text new b false few room e = e ∙ sym (put_full text b few (ltb-false (length text) 320 (sym room)))
 
 pub text_short : (l : Line) → length (text_of l) ≤ 320
-text_short l = omega (arith, length-take l.bytes.count l.bytes.places, l.bytes.few)
+text_short l = few_held l.bytes
 
 -- nothing put behind the text of a line leaves it
 pub unchanged : (l : Line) → text_of l ≡ cut (text_of l ++ [])

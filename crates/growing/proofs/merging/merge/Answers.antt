@@ -9,7 +9,7 @@ use Rattle.fixed.specs.Rows.{behind_less}
 use Rattle.rows.specs.Rows.{groups_of, AllWithin}
 use Rattle.rows.proofs.Ordered.{puts_in_order}
 use Rattle.growing.specs.Merging.{Mergeable, MergedUpto, MergeFull}
-use Rattle.growing.proofs.Ready.{few_held}
+use Rattle.fixed.proofs.Few.{few_held}
 use Rattle.growing.proofs.Merges.{merged_none, merged_more, none_is, merge_refused}
 use Rattle.growing.proofs.merging.merge.Goals as goal
 

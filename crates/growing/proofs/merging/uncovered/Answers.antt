@@ -6,7 +6,7 @@ use Rattle.placed.specs.Signs.{Within}
 use Rattle.placed.proofs.Ends.{blank}
 use Rattle.rows.specs.Rows.{groups_of, AllWithin}
 use Rattle.growing.specs.Merging.{uncovered_of}
-use Rattle.growing.proofs.Ready.{few_held}
+use Rattle.fixed.proofs.Few.{few_held}
 use Rattle.growing.proofs.Merges.{stays_more, stays_same}
 use Rattle.growing.proofs.merging.uncovered.Goals as goal
 use Rattle.growing.proofs.merging.uncovered.Goals.{then-not-covered, else-not-covered}

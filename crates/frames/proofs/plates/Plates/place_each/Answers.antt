@@ -3,7 +3,7 @@ use Rattle.std.proofs.lemmas.List.{drop_all}
 use Rattle.groups.specs.Items.{rising}
 use Rattle.groups.proofs.Rising.{blank}
 use Rattle.frames.specs.Fitted.{fitted, LowestMissing}
-use Rattle.frames.proofs.Fitting.{few_fitted}
+use Rattle.fixed.proofs.Few.{few_held}
 use Rattle.frames.proofs.Placing.{Placing, placing_none, placing_more, placing_all, lowest_here}
 use Rattle.frames.proofs.plates.Plates.place_each.Goals as goal
 
@@ -23,7 +23,7 @@ loop-item-preserved c =
     let f = c.args.self.now in
     let xs = c.items-item-items.result.now in
     let rises : rising 0 xs ≡ true = ap (rising 0) c.items-item-items.ensures ∙ c.args.group.now.rises in
-    placing_more (fitted f) xs c.loop-item.item-index c.loop-item.placed c.with-placed.result c.in-Some.place f.rises (few_fitted f) rises
+    placing_more (fitted f) xs c.loop-item.item-index c.loop-item.placed c.with-placed.result c.in-Some.place f.rises (few_held f.plates) rises
     c.loop-item-test.true (sym c.in-Some.ensures) c.with-placed.ensures c.loop-item.invariant
 
 pub returns : goal.returns

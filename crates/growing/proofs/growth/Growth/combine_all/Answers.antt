@@ -1,6 +1,6 @@
 use Rattle.std.proofs.Common.{is_ok, ◌+◌, ◌<◌, length, ap, arith}
 use Rattle.rows.specs.Rows.{groups_of}
-use Rattle.growing.proofs.Ready.{few_held}
+use Rattle.fixed.proofs.Few.{few_held}
 use Rattle.growing.specs.Gathered.{PairedOne, ClosedBelow, asked_of}
 use Rattle.growing.proofs.Taken.{grew_none}
 use Rattle.growing.proofs.Pairs.{closed_more, grew_length, step_stopped, way_more, way_end}

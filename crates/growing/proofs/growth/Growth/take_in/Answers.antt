@@ -2,7 +2,8 @@ use Rattle.std.proofs.Common.{is_ok, sym, ◌∙◌}
 use Rattle.placed.specs.Spelling.{spell}
 use Rattle.rows.specs.Rows.{groups_of}
 use Rattle.growing.specs.Gathered.{Met, asked_of}
-use Rattle.growing.proofs.Ready.{ready_of, few_held}
+use Rattle.fixed.proofs.Few.{few_held}
+use Rattle.growing.proofs.Ready.{ready_of}
 use Rattle.growing.proofs.Taken.{step_none, met_untold, unmet_managed, short_managed, pushed}
 use Rattle.growing.proofs.growth.Growth.take_in.Goals as goal
 

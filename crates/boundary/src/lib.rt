@@ -48,9 +48,30 @@ pub extern "C" fn boundary_table(
     // One engine for each crew: with one that takes any crew, a table takes a sixth more time.
     let plates = &plates;
     let table = match crew_of(kind, number) {
-        AnyCrew::Free(crew) => enter_all(Manned { crew: &crew, plates }, lines, answers),
-        AnyCrew::Hands(crew) => enter_all(Manned { crew: &crew, plates }, lines, answers),
-        AnyCrew::Split(crew) => enter_all(Manned { crew: &crew, plates }, lines, answers),
+        AnyCrew::Free(crew) => enter_all(
+            Manned {
+                crew: &crew,
+                plates,
+            },
+            lines,
+            answers,
+        ),
+        AnyCrew::Hands(crew) => enter_all(
+            Manned {
+                crew: &crew,
+                plates,
+            },
+            lines,
+            answers,
+        ),
+        AnyCrew::Split(crew) => enter_all(
+            Manned {
+                crew: &crew,
+                plates,
+            },
+            lines,
+            answers,
+        ),
     };
     write_groups(table.all(), groups);
     table.all().len()

@@ -176,7 +176,14 @@ fn run<C: Crew>(heap: Global, crew: &C, lines: &[Group]) -> Result<Option<Ran>, 
     let Some(plates) = frame_of_groups(heap, lines)? else {
         return Ok(None);
     };
-    let ran = run_lines(Manned { crew, plates: &plates }, lines).map(|outcome| Ran { plates, outcome });
+    let ran = run_lines(
+        Manned {
+            crew,
+            plates: &plates,
+        },
+        lines,
+    )
+    .map(|outcome| Ran { plates, outcome });
     Ok(ran.ok())
 }
 

@@ -4,4 +4,4 @@ use Rattle.rows.specs.Rows.{groups_of, AllWithin}
 use Rattle.boundary.proofs.enter_all.Given as goal
 
 abbrev pub invariant-loop-bytes : goal.invariant-loop-bytes
-invariant-loop-bytes g l = AllWithin (length (fitted l.plates)) (groups_of l.table)
+invariant-loop-bytes g l = AllWithin (length (fitted l.frame.plates.now)) (groups_of l.table)

@@ -5,4 +5,4 @@ use Rattle.rows.specs.Rows.{groups_of, AllWithin}
 use Rattle.trials.proofs.running.run_lines.Given as goal
 
 abbrev pub invariant-loop-group : goal.invariant-loop-group
-invariant-loop-group g l = AllWithin (length (fitted l.plates)) (groups_of l.table)
+invariant-loop-group g l = AllWithin (length (fitted l.frame.plates.now)) (groups_of l.table)

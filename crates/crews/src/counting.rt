@@ -24,11 +24,5 @@ pub(super) fn parted(plates: &[u32], plate: u32) -> Sides
 fn below(plates: &[u32], plate: u32) -> usize
     ensures { result ≡ length (filter (λ p. nat_lt p plate) plates.now) }
 {
-    let mut count = 0;
-    for p in plates {
-        if *p < plate {
-            count += 1;
-        }
-    }
-    count
+    plates.iter().filter(|p| **p < plate).count()
 }

@@ -5,10 +5,10 @@ ghost use Rattle.crews.specs.Meanings.{hands_of};
 ghost use Rattle.meaning.proofs.Lawful.{bound_lawful};
 
 use super::crew::Crew;
-use super::question::askable;
+use super::question::{MOST_MOVING, askable};
 
 // The most hands that count: one for each lever that can be between.
-pub const MOST_HANDS: u32 = 32;
+pub const MOST_HANDS: u32 = MOST_MOVING as u32;
 
 // At most `count` levers are between together, and `count` is at most 32.
 #[derive(Clone, Copy)]

@@ -1,21 +1,15 @@
-use Rattle.std.proofs.Common.{inl, inr}
-use Rattle.crews.proofs.Climbs.{climb_stops, climb_more, climb_ends}
+use Rattle.std.proofs.Common.{ℕ, ◌≡◌, ◌∙◌, Bool, nat_lt, rules, subst}
+use Rattle.std.specs.List.{IsAllAdjacentAnswer}
+use Rattle.std.proofs.lemmas.List.Sorted.{answers_always}
+use Rattle.crews.proofs.Climbs.{rising_climbs, not_climbing}
 use Rattle.crews.proofs.question.climbs.Goals as goal
-use Rattle.crews.proofs.question.climbs.Goals.{then-plate-low-via-then-plate-low, then-plate-low-via-else-plate-low+then-plate-gt-HIGHEST_PLATE}
 
-pub returns-then-plate-low : goal.returns-then-plate-low
-returns-then-plate-low c =
-    climb_stops c.args.plates.now c.loop-plate.low c.loop-plate.plate-index c.loop-plate-test.true
-    (elim c.then-plate-low.branch [
-      | then-plate-low-via-then-plate-low w ↦ inl w.if-plate-low.true
-      | then-plate-low-via-else-plate-low+then-plate-gt-HIGHEST_PLATE w ↦ inr w.if-plate-gt-HIGHEST_PLATE.true
-    ])
-    c.loop-plate.invariant
+pub returns-then-is_sorted_by : goal.returns-then-is_sorted_by
+returns-then-is_sorted_by c =
+    let cases = c.is_sorted_by.ensures.cases nat_lt (answers_always _ _ _ (λ f a r g h. search rules)) in
+    c.ends_fit.ensures ∙ rising_climbs c.args.plates.now (subst (IsAllAdjacentAnswer (λ (low high : ℕ) (b : Bool). b ≡ nat_lt low high) c.args.plates.now) c.if-is_sorted_by.true cases)
 
-pub loop-plate-preserved : goal.loop-plate-preserved
-loop-plate-preserved c =
-    climb_more c.args.plates.now c.loop-plate.low c.loop-plate.plate-index c.loop-plate-test.true c.if-plate-low.false c.if-plate-gt-HIGHEST_PLATE.false c.loop-plate.invariant
-
-pub returns : goal.returns
-returns c =
-    climb_ends c.args.plates.now c.loop-plate.low c.loop-plate.plate-index c.loop-plate-test.false c.loop-plate.invariant
+pub returns-else-is_sorted_by : goal.returns-else-is_sorted_by
+returns-else-is_sorted_by c =
+    let cases = c.is_sorted_by.ensures.cases nat_lt (answers_always _ _ _ (λ f a r g h. search rules)) in
+    c.if-is_sorted_by.false ∙ not_climbing c.args.plates.now (subst (IsAllAdjacentAnswer (λ (low high : ℕ) (b : Bool). b ≡ nat_lt low high) c.args.plates.now) c.if-is_sorted_by.false cases)

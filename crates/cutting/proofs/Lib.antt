@@ -1,4 +1,4 @@
 pub mod Asking
 pub mod Escaping
-pub mod Marking
 pub mod Surveying
+pub mod Turns

@@ -1,7 +1,8 @@
 -- The lines weighed one after the other. Assumes nothing.
-use Rattle.std.proofs.Common.{◌≡◌, ℕ, ◌+◌, ◌<◌, Bool, true, false, ◌&&◌, ◌||◌, List, [], ◌∷◌, ◌++◌, length, get_or, take, nat_le, is_some, Some, None, Option, Result, Ok, Err, Decides, sym, ap, ◌∙◌, subst, arith, rules, append_assoc}
+use Rattle.std.proofs.Common.{◌≡◌, ℕ, ◌+◌, ◌<◌, Bool, true, false, ◌&&◌, ◌||◌, List, [], ◌∷◌, ◌++◌, length, get_or, take, is_some, Some, None, Option, Result, Ok, Err, Decides, sym, ap, ◌∙◌, subst, arith, rules, append_assoc}
 use Rattle.std.specs.Result.{IsErr}
 use Rattle.std.proofs.lemmas.List.{take_more}
+use Rattle.std.specs.Ordering.{is_lt, nat_cmp}
 use Rattle.std.proofs.lemmas.List.Elements.{All-push, Contains-get_or, Contains-append_left, Contains-append_right}
 use Rattle.std.proofs.lemmas.Bool.{cond_both}
 use Rattle.groups.specs.declared.items.Sign.{Sign}
@@ -20,7 +21,7 @@ pub one_more : (levers : Levers) (lines : List Placed) (line set : Placed) (best
 one_more levers lines line set None None s w = All-push (λ l. Fails levers l set) lines line s w
 one_more levers lines line set (Some b) None s w = s
 one_more levers lines line set None (Some c) s w = w
-one_more levers lines line set (Some b) (Some c) s w = cond_both (nat_le b.free c.free) (Some b) (Some c) (λ o. Surveyed levers (lines ++ (line ∷ [])) set (Ok o)) (λ _. s) (λ _. w)
+one_more levers lines line set (Some b) (Some c) s w = cond_both (is_lt (nat_cmp c.free b.free)) c b (λ o. Surveyed levers (lines ++ (line ∷ [])) set (Ok (Some o))) (λ _. w) (λ _. s)
 
 module _ (levers : Levers) (before lines : List Placed) (set : Placed) (i : ℕ) (d : Placed) (here : i < length lines) where
   pub survey_more : (best next after : Option Choice) → Surveyed levers (before ++ take i lines) set (Ok best) → Weighed levers (get_or lines i d) set (Ok next) → after ≡ fewer_of best next → Surveyed levers (before ++ take (i + 1) lines) set (Ok after)
@@ -57,3 +58,6 @@ module _ (levers : Levers) (line set : Placed) (lacking settled both : Levers) (
 pub refused : (levers : Levers) (lines : List Placed) (set : Placed) (r : Result (Option Choice) Shown) → IsErr r → SomeMet levers lines set → Surveyed levers lines set r
 refused levers lines set (Err e) is m = m
 refused levers lines set (Ok o) is m = absurd (search rules)
+
+pub refused_here : (levers : Levers) (before lines : List Placed) (set : Placed) (i : ℕ) (d : Placed) (r : Result (Option Choice) Shown) → i < length lines → Meets levers (get_or lines i d) set → IsErr r → Surveyed levers (before ++ lines) set r
+refused_here levers before lines set i d r here m is = refused levers (before ++ lines) set r is (met_here levers before lines set i d here m)

@@ -1,5 +1,6 @@
 -- The search for a setting that shows a group and none of some lines. Assumes nothing.
-use Rattle.std.specs.Prelude.{◌≡◌, ℕ, zero, suc, ◌<◌, Bool, true, false, cond, ◌&&◌, ◌||◌, if◌then◌else◌, nat_lt, nat_le, List, length, All, Contains, is_some, Some, None, Option, Result, Ok, Err}
+use Rattle.std.specs.Prelude.{◌≡◌, ℕ, zero, suc, ◌<◌, Bool, true, false, cond, ◌&&◌, ◌||◌, nat_lt, List, length, All, Contains, is_some, Some, None, Option, Result, Ok, Err}
+use Rattle.std.specs.Ordering.{nat_cmp, on, ord_min}
 use Rattle.groups.specs.declared.items.Item.{Item}
 use Rattle.groups.specs.declared.items.Sign.{Sign}
 use Rattle.groups.specs.Rises.{climbing}
@@ -81,7 +82,7 @@ Judged levers lines set (Ok (Some choice)) = FreeAt levers set choice.lever
 abbrev pub fewer_of : Option Choice → Option Choice → Option Choice
 fewer_of best None = best
 fewer_of None (Some choice) = Some choice
-fewer_of (Some best) (Some choice) = if nat_le best.free choice.free then Some best else Some choice
+fewer_of (Some best) (Some choice) = Some (ord_min (on (λ c. c.free) nat_cmp) best choice)
 
 -- how many of the places below n the group leaves free
 abbrev pub free_below : Placed → ℕ → ℕ

@@ -31,7 +31,7 @@ pub const MOST_LINES: usize = 128;
 
 // The cut list of the lines of a frame: from the last line to the first, a line is left out if the others still on the
 // list permit no setting that shows it.
-#[tactic(auto, using(crate::proofs::Marking::none_gone, crate::proofs::Marking::one_gone, crate::proofs::Marking::one_kept, crate::proofs::Marking::all_gone))]
+#[tactic(auto, using(crate::proofs::Turns::none_gone, crate::proofs::Turns::one_gone, crate::proofs::Turns::one_kept, crate::proofs::Turns::all_gone))]
 pub fn cut_list<C: Crew>(
     frame: Manned<'_, C>,
     lines: &Row<Placed, MOST_LINES>,

@@ -7,6 +7,7 @@ ghost use Rattle.cutting.specs.Searching.{SearchedOver, Judged, Surveyed, Weighe
 use groups::items::Sign;
 use levers::Levers;
 use placed::Placed;
+use std::cmp::min_by_key;
 
 // The lines that a search is to hide, in two parts, and the levers of the frame.
 #[derive(Clone, Copy)]
@@ -73,6 +74,7 @@ fn split(levers: Levers, set: Placed, lever: usize) -> Halves
 
 // What some lines leave to do, after others that left a choice. The choice is that of a line with the fewest free levers, so
 // that the lines that are nearly shown are settled first.
+#[tactic(auto, using(crate::proofs::Surveying::refused_here))]
 fn survey(
     lines: &[Placed],
     levers: Levers,
@@ -93,9 +95,8 @@ fn fewer(best: Option<Choice>, next: Option<Choice>) -> Option<Choice>
     ensures { result ≡ fewer_of best next }
 {
     match (best, next) {
-        (_, None) => best,
-        (Some(choice), Some(other)) if choice.free <= other.free => best,
-        _ => next,
+        (Some(choice), Some(other)) => Some(min_by_key(choice, other, |choice| choice.free)),
+        _ => best.or(next),
     }
 }
 

@@ -1,13 +1,8 @@
 use Rattle.std.proofs.Common.{◌++◌, subst, Ok}
 use Rattle.std.proofs.lemmas.List.{take_all}
 use Rattle.cutting.specs.Searching.{Surveyed}
-use Rattle.cutting.proofs.Surveying.{survey_more, met_here, refused}
+use Rattle.cutting.proofs.Surveying.{survey_more}
 use Rattle.cutting.proofs.search.survey.Goals as goal
-
-pub returns-in_err-weigh : goal.returns-in_err-weigh
-returns-in_err-weigh c = λ before s.
-    refused c.args.levers (before ++ c.args.lines.now) c.args.set c.from_residual.result c.from_residual.ensures.0
-    (met_here c.args.levers before c.args.lines.now c.args.set c.loop-line.line-index _ c.loop-line-test.true c.in_err-weigh.ensures)
 
 pub loop-line-preserved : goal.loop-line-preserved
 loop-line-preserved c = λ before s.

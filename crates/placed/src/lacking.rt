@@ -21,9 +21,6 @@ impl Placed {
     pub fn lacking(self, other: Placed) -> Levers
         ensures { (k : ℕ) → has result k ≡ lacks (sign_on self k) (sign_on other k) }
     {
-        other
-            .up
-            .minus(self.up)
-            .union(other.down.minus(self.down))
+        other.up.minus(self.up).union(other.down.minus(self.down))
     }
 }

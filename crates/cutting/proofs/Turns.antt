@@ -12,7 +12,15 @@ use Rattle.placed.specs.Signs.{Within}
 use Rattle.placed.specs.Spelling.{spell}
 use Rattle.rows.specs.Rows.{spell_all, AllWithin}
 use Rattle.managing.specs.Standing.{frame_of}
-use Rattle.cutting.specs.Deciding.{Told, GoneThrough}
+use Rattle.cutting.specs.Deciding.{Told}
+
+-- the lines behind the first ones have been gone through, and of these some are kept
+pub record GoneThrough (crew : Admits) (ps : List ℕ) (lines first kept : List Placed) : Type 0 where
+  pub behind : List Placed
+  pub all : lines ≡ first ++ behind
+  pub cut : CutFrom (frame_of crew ps lines) (spell_all ps first) (spell_all ps behind) (spell_all ps kept)
+  pub few : length kept ≤ length behind
+  pub within : AllWithin (length ps) lines → AllWithin (length ps) kept
 
 -- before the first turn
 pub none_gone : (crew : Admits) (ps : List ℕ) (lines first kept : List Placed) → first ≡ lines → kept ≡ [] → GoneThrough crew ps lines first kept

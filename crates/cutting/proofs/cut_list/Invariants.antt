@@ -1,7 +1,7 @@
 use Rattle.std.proofs.Common.{length}
 use Rattle.fixed.specs.Rows.{held}
 use Rattle.frames.specs.Fitted.{fitted}
-use Rattle.cutting.specs.Deciding.{GoneThrough}
+use Rattle.cutting.proofs.Turns.{GoneThrough}
 use Rattle.cutting.proofs.cut_list.Given as goal
 
 abbrev pub invariant-loop-line : goal.invariant-loop-line

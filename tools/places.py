@@ -144,9 +144,9 @@ def main():
                 elif re.search(r"^\s*(\w+)(\.\w+)? (\+= 1|= \1\.saturating_add\((1|\w+)\));", block, re.M) or re.search(r"%= |/= |/ \d;", block) or re.search(r"\bat = at\.", block):
                     place(3, "count beside a loop", path, f.line, f.name + ": " + m.group(0))
                 elif re.fullmatch(r"\w+ = [^;]*;", inner):
-                    place(3, "loop that is a fold", path, f.line, f.name + ": " + m.group(0))
+                    place(8, "for that is a fold", path, f.line, f.name + ": " + m.group(0))
                 elif re.fullmatch(r"if [^{]*\{\s*\w+\.push\([^;]*\)\??;\s*\}", inner) or re.fullmatch(r"\w+\.push\([^;]*\)\?;", inner):
-                    place(3, "loop that collects", path, f.line, f.name + ": " + m.group(0))
+                    place(8, "for that collects", path, f.line, f.name + ": " + m.group(0))
         # 4: equality, order, copying, conversion by hand
         for m in re.finditer(r"^impl(<[^{]*>)? (Clone|PartialEq|Eq|PartialOrd|Ord|Hash)(<\w+>)? for (\w+)", text, re.M):
             place(4, "impl by hand", path, text.count("\n", 0, m.start()) + 1, m.group(0))
@@ -204,10 +204,11 @@ def main():
             place(5, "parameters in %d functions" % len(fs), fs[0].path, fs[0].line, ", ".join(pair))
     found.sort()
     for point, kind, path, line, text in found:
-        print("%d  %-30s %s:%d  %s" % (point, kind, path, line, text))
+        print("%s  %-30s %s:%d  %s" % (point if point < 8 else "3b", kind, path, line, text))
     print()
-    for point in range(1, 8):
-        print("point %d: %d" % (point, sum(1 for p in found if p[0] == point)))
+    for point in range(1, 9):
+        name = "point %d" % point if point < 8 else "beside point 3, `for` loops that fold or collect"
+        print("%s: %d" % (name, sum(1 for p in found if p[0] == point)))
 
 
 main()

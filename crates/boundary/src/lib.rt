@@ -30,7 +30,7 @@ mod writing;
 // The bytes of one line.
 const LINE_BYTES: usize = 16;
 
-// What became of a line that is in force.
+// What became of a line that is in force, as the byte that C gets.
 const ENTERED: u8 = 0;
 
 // Enters the lines one after the other, and writes what became of each, and the groups of the table. How many groups the

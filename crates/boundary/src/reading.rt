@@ -17,7 +17,7 @@ pub(super) fn plates_up_to(levers: u32) -> Plates {
     plates
 }
 
-// The crew of a kind, 0 free, 1 hands, else split, and of its number.
+// The crew of a kind, 0 free, 1 hands, else split, and of its number: C passes a kind as a number.
 pub(super) fn crew_of(kind: u32, number: u32) -> AnyCrew {
     match kind {
         0 => AnyCrew::Free(Free),
@@ -38,7 +38,7 @@ pub(super) fn line_of(bytes: &[u8]) -> Group {
     group
 }
 
-// The sign of a byte; * for any other than + and -.
+// The sign of a byte; * for any other than + and -, so it is no inverse of the byte that a sign is written as.
 fn sign_of(byte: u8) -> Sign {
     match byte {
         b'+' => Sign::Plus,

@@ -109,7 +109,7 @@ impl Refusal {
         }
     }
 
-    // The layer that refuses.
+    // The layer that refuses: each has a range of the numbers, as people know them.
     fn layer(self) -> Layer
         ensures { result ≡ layer_of (number_of self) }
     {

@@ -44,7 +44,7 @@ impl Group {
     }
 
     // Takes one more item, to its place by rising plates. False, and nothing taken, where the plate is no lever's or is
-    // named already, or there are 32 items.
+    // named already, or there are 32 items. A bool, as the `insert` of a set of the library has it: no caller asks which.
     pub fn insert(&mut self, item: Item) -> bool
         ensures taken { result ≡ takes (items_of self.old) item.plate }
         ensures after { items_of self.new ≡ (if result then insert item (items_of self.old) else items_of self.old) }

@@ -100,6 +100,7 @@ impl<'a, C: Crew> Growth<'a, C> {
         ensures { StepsTo C.Crew.admitted self.now new.old new.new result (λ a news. ((d : Placed) (j : ℕ) → j < at → Paired a news (slice_index_or news at d) (slice_index_or news j d))) }
     {
         let group = new.all()[at];
+        // the new groups grow meanwhile, so that no iterator goes over them
         for place in 0..at {
             let other = new.all()[place];
             self.pair(new, group, other)?;

@@ -12,6 +12,7 @@ use super::Placed;
 use groups::items::Sign;
 use std::cmp::Ordering;
 
+// By hand: a derive would compare the bits of the sets.
 impl PartialOrd for Placed {
     ghost partial_cmp = { as_partial_cmp order };
 

@@ -10,7 +10,7 @@ use Rattle.placed.specs.declared.Placed.{Placed}
 use Rattle.placed.specs.Signs.{sign_on}
 use Rattle.placed.specs.Spelling.{spell}
 use Rattle.fixed.specs.declared.row.Row.{Row}
-use Rattle.rows.specs.Rows.{groups_of, spell_all}
+use Rattle.rows.specs.Rows.{groups_of, spell_all, AllWithin}
 use Rattle.managing.specs.Standing.{frame_of}
 use Rattle.growing.specs.declared.Overflow.{Overflow}
 use Rattle.growing.specs.declared.Stop.{Stop}
@@ -47,6 +47,17 @@ FitBelow crew ps lines n = (i : ℕ) → i < n → Fits (frame_of crew ps (take 
 abbrev pub FromLines : Admits → List ℕ → List Placed → Result (Row Placed 512) Overflow → Type 0
 FromLines crew ps lines (Ok r) = IsTable (frame_of crew ps lines) (spell_all ps (groups_of r)) × FitBelow crew ps lines (length lines + 1)
 FromLines crew ps lines (Err e) = (0 < e.lines) × (e.lines ≤ length lines) × Oversized (frame_of crew ps (take e.lines lines)) × FitBelow crew ps lines e.lines
+
+-- a row is the table of the first k lines, and those of fewer lines have at most 512 groups each
+pub record TableUpto (crew : Admits) (ps : List ℕ) (lines : List Placed) (k : ℕ) (r : Row Placed 512) : Type 0 where
+  pub table : IsTable (frame_of crew ps (take k lines)) (spell_all ps (groups_of r))
+  pub fit : FitBelow crew ps lines (k + 1)
+  pub within : AllWithin (length ps) (groups_of r)
+
+-- the table of one line more than the first k, or the answer to all lines
+abbrev pub NextUpto : Admits → List ℕ → List Placed → ℕ → Result (Row Placed 512) Overflow → Type 0
+NextUpto crew ps lines k (Ok r) = TableUpto crew ps lines (k + 1) r
+NextUpto crew ps lines k (Err e) = FromLines crew ps lines (Err e)
 
 -- one group, of no items
 abbrev pub OnlyEmpty : List Placed → Type 0

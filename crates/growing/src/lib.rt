@@ -3,11 +3,11 @@
 // what is known of the groups on the way.
 #![tactic(auto)]
 
-ghost use Rattle.std.specs.Prelude.{◌≡◌, length, IfOk};
+ghost use Rattle.std.specs.Prelude.{◌≡◌, ◌<◌, length, IfOk};
 ghost use Rattle.placed.specs.Signs.{Within};
 ghost use Rattle.frames.specs.Fitted.{fitted};
 ghost use Rattle.rows.specs.Rows.{groups_of, AllWithin};
-ghost use Rattle.growing.specs.Growth.{GrowsTo, FromLines, OnlyEmpty};
+ghost use Rattle.growing.specs.Growth.{GrowsTo, FromLines, TableUpto, NextUpto, OnlyEmpty};
 ghost use Rattle.growing.specs.declared.Stop.TheVariants.{TooMany};
 
 use crews::crew::Crew;
@@ -70,14 +70,29 @@ pub fn from_lines<C: Crew>(
     ensures within { IfOk result (λ r. AllWithin (length (fitted frame.entry.plates.now)) (groups_of r)) }
 {
     let mut table = Row::new(Placed::empty());
-    for (at, line) in lines.iter().enumerate() {
-        table = match grow(frame, &table, *line) {
-            Ok(grown) => grown,
-            Err(Stop::NothingPossible) => nothing_possible(),
-            Err(Stop::TooMany) => return Err(Overflow { lines: at + 1 }),
-        };
+    for at in 0..lines.len() {
+        table = with_next(frame, lines, at, &table)?;
     }
     Ok(table)
+}
+
+// The table of the lines up to the one at a place, from that of the lines before it.
+fn with_next<C: Crew>(
+    frame: Manned<'_, C>,
+    lines: &[Placed],
+    at: usize,
+    table: &Row<Placed, MOST_GROUPS>,
+) -> Result<Row<Placed, MOST_GROUPS>, Overflow>
+    requires lines { AllWithin (length (fitted frame.plates.now)) lines.now }
+    requires there { at < length lines.now }
+    requires upto { TableUpto (C.Crew.admitted frame.crew.now) (fitted frame.plates.now) lines.now at table.now }
+    ensures { NextUpto (C.Crew.admitted frame.entry.crew.now) (fitted frame.entry.plates.now) lines.now at result }
+{
+    match grow(frame, table, lines[at]) {
+        Ok(grown) => Ok(grown),
+        Err(Stop::NothingPossible) => Ok(nothing_possible()),
+        Err(Stop::TooMany) => Err(Overflow { lines: at + 1 }),
+    }
 }
 
 // The table of lines that leave no possible setting: the group of no items alone.

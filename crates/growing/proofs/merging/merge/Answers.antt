@@ -1,16 +1,14 @@
 use Rattle.std.proofs.Common.{◌≡◌, ℕ, ◌+◌, List, length, get_or, is_ok, sym, ap, ◌∙◌, subst, arith}
-use Rattle.std.proofs.lemmas.Result.{IfOk-from_err}
 use Rattle.std.proofs.ByRecursion.{All-get_or}
-use Rattle.std.proofs.lemmas.Bool.{cond-true, ltb-false}
+use Rattle.std.proofs.lemmas.Bool.{cond-true}
 use Rattle.placed.specs.Order.{order}
 use Rattle.placed.specs.Signs.{Within}
 use Rattle.placed.proofs.Ends.{blank}
 use Rattle.fixed.specs.Rows.{behind_less}
 use Rattle.rows.specs.Rows.{groups_of, AllWithin}
 use Rattle.rows.proofs.Ordered.{puts_in_order}
-use Rattle.growing.specs.Merging.{Mergeable, MergedUpto, MergeFull}
-use Rattle.fixed.proofs.Few.{few_held}
-use Rattle.growing.proofs.Merges.{merged_none, merged_more, none_is, merge_refused}
+use Rattle.growing.specs.Merging.{Mergeable, MergedUpto}
+use Rattle.growing.proofs.Merges.{merged_none, merged_more, none_is}
 use Rattle.growing.proofs.merging.merge.Goals as goal
 
 pub loop-group-init : goal.loop-group-init
@@ -19,20 +17,6 @@ loop-group-init c = (
       merged_none ps (groups_of c.args.table.now) c.all-added.result.now (groups_of c.uncovered-merged.result) m (c.uncovered-merged.ensures.kept ps (record { climbs = m.climbs; few = m.few; within = m.new_within }))),
   λ n v w. c.uncovered-merged.ensures.within n v,
 )
-
-pub returns-in_err-put_in_order : goal.returns-in_err-put_in_order
-returns-in_err-put_in_order c =
-    let r = c.loop-group.merged in
-    record {
-      merged = merge_refused (groups_of c.args.table.now) (groups_of c.args.new.now) c.from_residual.result c.from_residual.ensures.0 (subst (λ gs. (ps : List ℕ) → Mergeable ps (groups_of c.args.table.now) gs → MergeFull ps (groups_of c.args.table.now) gs) c.all-added.ensures (λ ps m. record {
-        part = groups_of r;
-        upto = c.loop-group.group-index;
-        more = c.loop-group-test.true;
-        merged = c.loop-group.invariant.0 ps m;
-        full = omega (arith, ltb-false (length (groups_of r)) 512 (sym c.put_in_order.ensures.room ∙ ap is_ok c.in_err-put_in_order.was), few_held r);
-      }));
-      within = λ n v w. IfOk-from_err c.from_residual.result _ c.from_residual.ensures.0;
-    }
 
 pub loop-group-preserved : goal.loop-group-preserved
 loop-group-preserved c =

@@ -11,9 +11,6 @@ use Rattle.growing.proofs.Merges.{stays_more, stays_same}
 use Rattle.growing.proofs.merging.uncovered.Goals as goal
 use Rattle.growing.proofs.merging.uncovered.Goals.{then-not-covered, else-not-covered}
 
-pub loop-group-init : goal.loop-group-init
-loop-group-init c = (omega (arith, ap length c.new-rest.ensures), (λ ps h. c.new-rest.ensures), λ n v. subst (AllWithin n) (sym c.new-rest.ensures) tt)
-
 pub loop-group-preserved : goal.loop-group-preserved
 loop-group-preserved c =
     let old = groups_of c.loop-group.rest in

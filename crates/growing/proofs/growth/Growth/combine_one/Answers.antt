@@ -3,22 +3,8 @@ use Rattle.std.specs.List.{AllByRecursion}
 use Rattle.placed.specs.declared.Placed.{Placed}
 use Rattle.rows.specs.Rows.{groups_of}
 use Rattle.growing.specs.Gathered.{Paired, PairedOne, asked_of}
-use Rattle.growing.proofs.Pairs.{all_grew, grew_at, grew_length, step_stopped, step_goal, step_after}
-use Rattle.growing.proofs.Taken.{grew_none}
+use Rattle.growing.proofs.Pairs.{all_grew, grew_at, grew_length, step_goal, step_after}
 use Rattle.growing.proofs.growth.Growth.combine_one.Goals as goal
-
-pub pair_with_new-requires : goal.pair_with_new-requires
-pair_with_new-requires g c = record {
-  gathered = c.pair_with_table.ensures.gathered;
-  there = omega (arith, c.requires.there, grew_length (groups_of c.args.new.now) (groups_of c.pair_with_table.new.new) c.pair_with_table.ensures.grew);
-}
-
-pub returns-in_err-pair_with_table : goal.returns-in_err-pair_with_table
-returns-in_err-pair_with_table g c =
-    let a = asked_of g.C.Crew.admitted c.args.self.now in
-    let old = groups_of c.args.new.now in
-    step_stopped a old old (groups_of c.pair_with_table.new.new) (is_ok c.pair_with_table.result) c.from_residual.result (λ n. (d : Placed) → AllByRecursion (Paired a n (get_or n c.args.at d)) a.table) (PairedOne a c.args.at)
-    (ap is_ok c.in_err-pair_with_table.was) c.from_residual.ensures.0 (grew_none old) c.pair_with_table.ensures
 
 pub returns : goal.returns
 returns g c =

@@ -5,8 +5,8 @@ use Rattle.frames.specs.Fitted.{fitted}
 use Rattle.rows.specs.Rows.{groups_of}
 use Rattle.growing.specs.Gathered.{Paired, PairedAt, asked_of}
 use Rattle.growing.proofs.Ready.{ready_of}
-use Rattle.growing.proofs.Taken.{step_none, grew_none}
-use Rattle.growing.proofs.Pairs.{joined_opposed, paired_all, paired_more, step_stopped, way_more, way_end}
+use Rattle.growing.proofs.Taken.{step_none}
+use Rattle.growing.proofs.Pairs.{joined_opposed, paired_all, paired_more, way_more, way_end}
 use Rattle.growing.proofs.growth.Growth.pair.Goals as goal
 
 pub returns-then-is_none : goal.returns-then-is_none
@@ -16,23 +16,6 @@ returns-then-is_none g c =
     step_none a (groups_of c.args.new.now) (λ news. Paired a news c.args.group c.args.other) c.requires.gathered
     (paired_all a (groups_of c.args.new.now) c.args.group c.args.other (λ k l d j.
     absurd (both_ways (opposed_signs (sign_on c.args.group k) (sign_on c.args.other k)) (sym (c.opposing.ensures k) ∙ c.is_none.ensures.0 c.if-is_none.true k) (joined_opposed ps c.args.group c.args.other k (ready_of g.C.Crew.admitted c.args.self.now).climbs l d j))))
-
-pub loop-place-init : goal.loop-place-init
-loop-place-init g c = record { gathered = c.requires.gathered; grew = grew_none (groups_of c.args.new.now); goal = λ k l. absurd (omega arith) }
-
-pub pair_at-requires : goal.pair_at-requires
-pair_at-requires g c = record {
-  gathered = c.loop-place.invariant.gathered;
-  group = c.requires.group;
-  other = c.requires.other;
-  place = omega (arith, c.loop-place-test.true, ap length c.all-place-end.ensures);
-}
-
-pub returns-in_err-pair_at : goal.returns-in_err-pair_at
-returns-in_err-pair_at g c =
-    let a = asked_of g.C.Crew.admitted c.args.self.now in
-    step_stopped a (groups_of c.args.new.now) (groups_of c.loop-place.new) (groups_of c.pair_at.new.new) (is_ok c.pair_at.result) c.from_residual.result (λ news. PairedAt a news c.args.group c.args.other c.loop-place.place) (λ news. Paired a news c.args.group c.args.other)
-    (ap is_ok c.in_err-pair_at.was) c.from_residual.ensures.0 c.loop-place.invariant.grew c.pair_at.ensures
 
 pub loop-place-preserved : goal.loop-place-preserved
 loop-place-preserved g c =

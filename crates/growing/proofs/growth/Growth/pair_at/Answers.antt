@@ -7,7 +7,7 @@ use Rattle.rows.specs.Rows.{groups_of}
 use Rattle.growing.specs.Gathered.{Met, PairedAt, asked_of}
 use Rattle.growing.proofs.Ready.{ready_of}
 use Rattle.growing.proofs.Taken.{step_none}
-use Rattle.growing.proofs.Pairs.{joined_opposed, joined_is, joined_within, met_joined, step_goal}
+use Rattle.growing.proofs.Pairs.{joined_opposed, joined_is, met_joined, step_goal}
 use Rattle.growing.proofs.growth.Growth.pair_at.Goals as goal
 
 pub returns-then-not-has : goal.returns-then-not-has
@@ -18,14 +18,6 @@ returns-then-not-has g c =
     let none : opposed_signs (sign_on c.args.group k) (sign_on c.args.other k) ≡ false = sym (c.opposing.ensures k) ∙ sym c.has.ensures ∙ c.if-not-has.true in
     step_none a (groups_of c.args.new.now) (λ news. PairedAt a news c.args.group c.args.other k) c.requires.gathered
     (λ d j. absurd (both_ways (opposed_signs (sign_on c.args.group k) (sign_on c.args.other k)) none (joined_opposed ps c.args.group c.args.other k (ready_of g.C.Crew.admitted c.args.self.now).climbs c.requires.place d j)))
-
-pub consider-requires : goal.consider-requires
-consider-requires g c =
-    let ps = fitted c.args.self.now.frame.plates.now in
-    record {
-      gathered = c.requires.gathered;
-      within = joined_within ps c.args.group c.args.other c.args.place (ready_of g.C.Crew.admitted c.args.self.now).climbs c.requires.place c.join.result c.join.ensures c.requires.group c.requires.other;
-    }
 
 pub returns : goal.returns
 returns g c =

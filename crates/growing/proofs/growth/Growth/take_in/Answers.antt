@@ -1,18 +1,11 @@
-use Rattle.std.proofs.Common.{is_ok, sym, ◌∙◌}
+use Rattle.std.proofs.Common.{is_ok}
 use Rattle.placed.specs.Spelling.{spell}
-use Rattle.rows.specs.Rows.{groups_of}
-use Rattle.growing.specs.Gathered.{Met, asked_of}
 use Rattle.fixed.proofs.Few.{few_held}
+use Rattle.rows.specs.Rows.{groups_of}
+use Rattle.growing.specs.Gathered.{asked_of}
 use Rattle.growing.proofs.Ready.{ready_of}
-use Rattle.growing.proofs.Taken.{step_none, met_untold, unmet_managed, short_managed, pushed}
+use Rattle.growing.proofs.Taken.{unmet_managed, short_managed, pushed}
 use Rattle.growing.proofs.growth.Growth.take_in.Goals as goal
-
-pub returns-then-not-tells : goal.returns-then-not-tells
-returns-then-not-tells g c =
-    let a = asked_of g.C.Crew.admitted c.args.self.now in
-    let new = groups_of c.args.new.now in
-    let items = spell a.plates c.args.group in
-    step_none a new (λ news. Met a news items) c.requires.gathered (met_untold a new items (sym c.tells.ensures ∙ c.if-not-tells.true))
 
 pub returns : goal.returns
 returns g c =

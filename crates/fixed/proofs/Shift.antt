@@ -1,9 +1,10 @@
 -- One more element at a place of a list's front. Assumes nothing.
-use Rattle.std.proofs.Common.{◌≡◌, ℕ, ◌+◌, ◌-◌, ◌<◌, ◌≤◌, List, [], ◌∷◌, ◌++◌, length, take, drop, set, sym, ap, ◌∙◌, arith}
+use Rattle.std.proofs.Common.{⊎_elim, ◌≡◌, ℕ, ◌+◌, ◌-◌, ◌<◌, ◌≤◌, List, [], ◌∷◌, ◌++◌, length, min, take, drop, set, sym, ap, ◌∙◌, arith}
 use borrow.Rule.Slice.PartMut.{put_mid}
 use Rattle.std.specs.List.{between}
-use Rattle.std.proofs.lemmas.List.{take-take, take-set-le, drop-set-add, take_more_set, drop_at, take_at, drop-take, length-take-le, length-drop, length_push, length-set}
+use Rattle.std.proofs.lemmas.List.{take_min, drop_all, take-take, take-set-le, drop-set-add, take_more_set, drop_at, take_at, drop-take, length-take-le, length-drop, length_push, length-set}
 use Rattle.std.proofs.lemmas.Slice.{take-put_mid}
+use Rattle.std.proofs.lemmas.Bool.{cases_lt}
 
 module _ {X : Type 0} (xs : List X) (a m : ℕ) (x : X) (fits : a + m < length xs) where
   -- the part that is turned: the elements from a on, and the new one behind them
@@ -39,3 +40,20 @@ put_in xs a n x ys zs le lt ey ez = at (n - a) (omega arith) ey
     at m e ey =
         let fits : a + m < length xs = omega arith in
         rw e (put xs a m x fits zs (ez ∙ turned xs a m x fits ys ((rw e at ey) ∙ part xs a m x fits)))
+
+-- the same at place k, the lower of a place a and n
+pub put_upto : {X : Type 0} (xs : List X) (a n k : ℕ) (x : X) (ys zs : List X) → k ≡ min a n → n < length xs → ys ≡ between k (n + 1) (set xs n x) → zs ≡ drop (length ys - 1) ys ++ take (length ys - 1) ys → take (n + 1) (put_mid k (n + 1 - k) (set xs n x) zs) ≡ take a (take n xs) ++ (x ∷ drop a (take n xs))
+put_upto {X} xs a n k x ys zs is lt ey ez =
+    put_in xs k n x ys zs (omega (arith, is)) lt ey ez ∙ (λ i. front i ++ (x ∷ rest i))
+  where
+    long : length (take n xs) ≡ n
+    long = length-take-le n xs (omega arith)
+
+    lowest : min a (length (take n xs)) ≡ k
+    lowest = ap (min a) long ∙ sym is
+
+    front : take k (take n xs) ≡ take a (take n xs)
+    front = ap (λ j. take j (take n xs)) (sym lowest) ∙ take_min a (take n xs)
+
+    rest : drop k (take n xs) ≡ drop a (take n xs)
+    rest = ⊎_elim (λ l. ap (λ j. drop j (take n xs)) (omega (arith, is, l))) (λ l. drop_all k (take n xs) (omega (arith, is, l, long)) ∙ sym (drop_all a (take n xs) (omega (arith, l, long)))) (cases_lt a n)

@@ -41,9 +41,9 @@ impl<T: Copy, const N: usize> Row<T, N> {
         Ok(())
     }
 
-    // Takes one more item, behind the first `at`. Refused, and nothing taken, where all places are.
+    // Takes one more item, behind the first `at`, or behind all where they are fewer. Refused, and nothing taken, where all
+    // places are.
     pub fn insert(&mut self, at: usize, item: T) -> Result<(), Full>
-        requires { at ≤ length (held self.old) }
         ensures room { is_ok result ≡ nat_lt (length (held self.old)) N }
         ensures after { held self.new ≡ (if is_ok result then take at (held self.old) ++ (item ∷ drop at (held self.old)) else held self.old) }
     {
@@ -79,12 +79,13 @@ fn less_in_front<T: Copy + Ord>(items: &[T], item: T) -> usize
         .count()
 }
 
-// Puts an item at a place of the first `count`, of which those from there on move up by one.
+// Puts an item behind the first `at` of the first `count`, or behind all of these, and moves those behind it up by one.
 fn put_in<T: Copy>(places: &mut [T], count: usize, at: usize, item: T)
-    requires { (at ≤ count) × (count < length places.old) }
+    requires { count < length places.old }
     ensures put { take (count + 1) places.new ≡ take at (take count places.old) ++ (item ∷ drop at (take count places.old)) }
     ensures long { length places.new ≡ length places.old }
 {
+    let at = at.min(count);
     places[count] = item;
     places[at..count + 1].rotate_right(1);
 }

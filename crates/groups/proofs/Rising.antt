@@ -58,9 +58,6 @@ place_more p x xs h = cond-true _ _ _ (lt-ltb _ _ h) ∙ one-add _
 place_here : (p : ℕ) (x : Item) (xs : List Item) → p ≤ x.plate → place_of p (x ∷ xs) ≡ 0
 place_here p x xs h = cond-false _ _ _ (le-ltb _ _ h)
 
-pub place_within : (p : ℕ) (xs : List Item) → place_of p xs ≤ length xs
-place_within p xs = prefix_len-le-length (λ i. ltb i.plate p) xs
-
 -- the sign of the first item with the plate is the one that the items give it
 pub sign_of_found : (xs : List Item) (p : ℕ) → option_map (λ i. i.sign) (find (λ i. i.plate == p) xs) ≡ sign_at xs p
 sign_of_found [] p = refl

@@ -1,14 +1,11 @@
-use Rattle.std.proofs.Common.{◌≡◌, length, ap, ◌∙◌, arith}
+use Rattle.std.proofs.Common.{◌≡◌, ◌∙◌}
 use Rattle.std.proofs.lemmas.Bool.{lt-ltb, cond-true}
 use Rattle.fixed.specs.Rows.{held}
 use Rattle.groups.specs.Groups.{items_of}
 use Rattle.groups.specs.Items.{insert}
-use Rattle.groups.proofs.Rising.{taken, put_is, put_rises, place_within}
+use Rattle.groups.proofs.Rising.{taken, put_is, put_rises}
 use Rattle.groups.proofs.group.Group.put.Goals as goal
 use Rattle.groups.proofs.group.Group.put.Goals.{After-insert}
-
-pub insert-requires : goal.insert-requires
-insert-requires c = omega (arith, place_within c.args.item.plate c.items.result.now, c.place_of-at.ensures, ap length c.items.ensures)
 
 done : (c : After-insert) → held c.insert.new.self ≡ insert c.args.item (items_of c.args.self.now)
 done c =

@@ -7,7 +7,6 @@ use Rattle.placed.specs.declared.Placed.{Placed}
 use Rattle.placed.specs.Signs.{Within}
 use Rattle.fixed.specs.declared.row.Row.{Row}
 use Rattle.rows.specs.Rows.{groups_of, AllWithin}
-use Rattle.telling.specs.Told.{Holds}
 use Rattle.growing.specs.declared.growth.Growth.{Growth}
 use Rattle.growing.specs.Gathered.{Asked, asked_of}
 
@@ -27,9 +26,6 @@ ready_of means g =
       within = g.table_within;
       line = g.line_within;
     }
-
-pub holds_of : (a : Asked) → Ready a → Holds a.plates a.table
-holds_of a r = record { climbs = r.climbs; few = r.few; within = r.within }
 
 -- a row holds no more than it has places for
 pub few_held : {n : ℕ} (r : Row Placed n) → length (groups_of r) ≤ n

@@ -1,5 +1,5 @@
 // Gathering the groups that one more line adds to a table: the line, and all combinations, each shortened.
-ghost use Rattle.std.specs.Prelude.{◌≡◌, ℕ, ◌<◌, false, true, length, slice_index_or};
+ghost use Rattle.std.specs.Prelude.{◌≡◌, ℕ, ◌<◌, false, true, [], length, slice_index_or};
 ghost use Rattle.std.specs.List.{AllByRecursion};
 ghost use Rattle.placed.specs.Signs.{Within};
 ghost use Rattle.placed.specs.Spelling.{spell};
@@ -17,6 +17,7 @@ use placed::Placed;
 use telling::shortening::shorten;
 use telling::{covered, tells};
 
+// What holds of the new groups depends on what the crew means, so that each method asks for it.
 impl<'a, C: Crew> Growth<'a, C> {
     // The line and all combinations, each shortened. Refused where more than 512 groups come up.
     pub(super) fn gather(&self) -> Result<Row<Placed, MOST_GROUPS>, Full>
@@ -28,8 +29,15 @@ impl<'a, C: Crew> Growth<'a, C> {
         Ok(new)
     }
 
+    // Whether no setting is possible with the line: even the group of no items is forbidden then.
+    pub(super) fn leaves_nothing(&self) -> bool
+        ensures { result ≡ told_of (asked_of C.Crew.admitted self.now) [] }
+    {
+        self.tells(Placed::empty())
+    }
+
     // Whether a group is forbidden with the line.
-    pub(super) fn tells(&self, group: Placed) -> bool
+    fn tells(&self, group: Placed) -> bool
         ensures { result ≡ told_of (asked_of C.Crew.admitted self.now) (spell (fitted self.now.frame.plates.now) group) }
     {
         tells(
@@ -60,7 +68,7 @@ impl<'a, C: Crew> Growth<'a, C> {
         ensures { StepsTo C.Crew.admitted self.now new.old new.new result (λ a news. ClosedBelow a (length news) news) }
     {
         let mut at = 0;
-        // the new groups grow meanwhile, so that no iterator goes over them
+        // a `while`, since the new groups grow meanwhile, and no iterator can go over them
         while at < new.all().len() {
             self.combine_one(new, at)?;
             at += 1;

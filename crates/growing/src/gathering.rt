@@ -5,7 +5,7 @@ ghost use Rattle.placed.specs.Signs.{Within};
 ghost use Rattle.placed.specs.Spelling.{spell};
 ghost use Rattle.frames.specs.Fitted.{fitted};
 ghost use Rattle.rows.specs.Rows.{groups_of, AllWithin};
-ghost use Rattle.growing.specs.Gathered.{asked_of, told_of, met_by, Gathered, GathersTo, Met, ShortenedFor, Paired, PairedAt};
+ghost use Rattle.growing.specs.Gathered.{asked_of, told_of, met_by, Complete, Gathered, Met, ShortenedFor, Paired, PairedAt};
 ghost use Rattle.growing.specs.Gathered.{PairedOne, ClosedBelow, StepsTo};
 
 use super::MOST_GROUPS;
@@ -19,14 +19,14 @@ use telling::{covered, tells};
 
 // What holds of the new groups depends on what the crew means, so that each method asks for it.
 impl<'a, C: Crew> Growth<'a, C> {
-    // The line and all combinations, each shortened. Refused where more than 512 groups come up.
-    pub(super) fn gather(&self) -> Result<Row<Placed, MOST_GROUPS>, Full>
-        ensures { GathersTo (asked_of C.Crew.admitted self.now) result }
+    // Takes in the line and all combinations, each shortened, until there is nothing left to combine. Refused where more than
+    // 512 groups come up.
+    pub(super) fn gather(&self, new: &mut Row<Placed, MOST_GROUPS>) -> Result<(), Full>
+        requires { Gathered (asked_of C.Crew.admitted self.now) (groups_of new.old) }
+        ensures { StepsTo C.Crew.admitted self.now new.old new.new result Complete }
     {
-        let mut new = Row::new(Placed::empty());
-        self.consider(&mut new, self.line)?;
-        self.combine_all(&mut new)?;
-        Ok(new)
+        self.consider(new, self.line)?;
+        self.combine_all(new)
     }
 
     // Whether no setting is possible with the line: even the group of no items is forbidden then.

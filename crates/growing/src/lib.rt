@@ -113,7 +113,8 @@ impl<'a, C: Crew> Growth<'a, C> {
         if self.leaves_nothing() {
             return Err(Stop::NothingPossible);
         }
-        let new = self.gather()?;
+        let mut new = Row::new(Placed::empty());
+        self.gather(&mut new)?;
         Ok(merging::merge(self.table, &new)?)
     }
 }

@@ -7,6 +7,7 @@ use Rattle.placed.specs.declared.Placed.{Placed}
 use Rattle.placed.specs.Signs.{Within}
 use Rattle.fixed.specs.declared.row.Row.{Row}
 use Rattle.rows.specs.Rows.{groups_of, AllWithin}
+use Rattle.managing.proofs.Stars.{few_fitted}
 use Rattle.growing.specs.declared.growth.Growth.{Growth}
 use Rattle.growing.specs.Gathered.{Asked, asked_of}
 
@@ -22,7 +23,7 @@ ready_of means g =
     let p = g.frame.plates.now in
     record {
       climbs = p.rises;
-      few = omega (arith, length-take-le p.count p.plates (omega (arith, p.long, p.few)), p.few);
+      few = few_fitted p;
       within = g.table_within;
       line = g.line_within;
     }

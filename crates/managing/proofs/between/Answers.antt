@@ -30,9 +30,9 @@ loop-place-preserved c =
       )
     ]
 
-pub returns : goal.returns
-returns c =
+pub returns-clause-askable : goal.returns-clause-askable
+returns-clause-askable c =
     let p = c.args.plates.now in
     let group = c.args.group in
     let is : held c.loop-place.moving ≡ stars (spell (fitted p) group) = c.loop-place.invariant.1 ∙ ap (λ ps. stars (spell ps group)) (take_all c.loop-place.place c.all-plate-items.result.now c.loop-place-test.false ∙ c.all-plate-items.ensures) in
-    record { stars = is; askable = ap askable is ∙ stars_askable (fitted p) group p.rises (few_fitted p) }
+    ap askable is ∙ stars_askable (fitted p) group p.rises (few_fitted p)

@@ -26,9 +26,6 @@ use Rattle.growing.proofs.Grown.{has_spelled, spelled_has}
 -- ## The groups that stay
 
 module _ (ps : List ℕ) (new table : List Placed) (i : ℕ) (d : Placed) (l : i < length table) where
-  stays : Bool
-  stays = not (covered_by (spell_all ps new) (spell ps (get_or table i d)))
-
   next : uncovered_of ps new (take (i + 1) table) ≡ uncovered_of ps new (take i table) ++ cond (not (covered_by (spell_all ps new) (spell ps (get_or table i d)))) (get_or table i d ∷ []) []
   next = filter_more (λ g. not (covered_by (spell_all ps new) (spell ps g))) table i d l
 

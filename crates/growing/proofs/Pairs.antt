@@ -1,9 +1,9 @@
 -- Two groups combined, lever by lever. Assumes nothing.
-use Rattle.std.proofs.Common.{◌≡◌, ℕ, ◌+◌, ◌<◌, ◌≤◌, Bool, true, false, cond, eqb, ◌⊎◌, List, ◌++◌, length, get_or, take, Some, None, Ok, Err, is_ok, is_err, Option, Result, sym, refl, ap, ◌∙◌, subst, inl, inr, ⊎_elim, arith}
+use Rattle.std.proofs.Common.{◌≡◌, ℕ, ◌+◌, ◌<◌, ◌≤◌, Bool, true, cond, eqb, ◌⊎◌, List, ◌++◌, length, get_or, take, Some, None, Option, sym, refl, ap, ◌∙◌, subst, inl, inr, ⊎_elim, arith}
 use Rattle.std.specs.List.{AllByRecursion}
-use Rattle.std.proofs.ByRecursion.{All-weaker, All-more, All-get_or}
+use Rattle.std.proofs.ByRecursion.{All-weaker, All-more}
 use Rattle.std.proofs.lemmas.List.{append_assoc, get_or_append_left, get_or_default, length-append}
-use Rattle.std.proofs.lemmas.Bool.{both_ways, cases_eq, cases_lt, cond-false, ne_eqb, false≢true}
+use Rattle.std.proofs.lemmas.Bool.{cases_eq, cases_lt, false≢true}
 use Rattle.groups.specs.declared.items.Item.{Item}
 use Rattle.groups.specs.declared.items.Sign.{Sign}
 use Rattle.groups.specs.declared.items.Sign.TheVariants.{Plus, Minus, Star}
@@ -12,10 +12,10 @@ use Rattle.groups.specs.Rises.{climbing}
 use Rattle.groups.proofs.Climbing.{place_cases}
 use Rattle.groups.proofs.Rising.{same_signs}
 use Rattle.placed.specs.declared.Placed.{Placed}
-use Rattle.placed.specs.Signs.{Within, sign_on, opposed_signs}
+use Rattle.placed.specs.Signs.{sign_on, opposed_signs}
 use Rattle.placed.specs.Spelling.{spell}
 use Rattle.placed.proofs.Spelled.{spelled_sign, spelled_none, joined_over}
-use Rattle.growing.specs.Gathered.{Asked, Fresh, Gathered, Met, Joined, Paired, PairedAt, PairedOne, ClosedBelow, Grew, Step}
+use Rattle.growing.specs.Gathered.{Asked, Gathered, Met, Joined, Paired, PairedAt, PairedOne, ClosedBelow, Grew, Step}
 use Rattle.growing.proofs.Taken.{met_grew}
 
 -- ## Steps one after the other
@@ -32,15 +32,6 @@ grew_length old new g = omega (arith, ap length g.is, length-append old g.more)
 
 pub paired_grew : (a : Asked) (old new : List Placed) (g h : Placed) → Grew old new → Paired a old g h → Paired a new g h
 paired_grew a old new g h more p x c j = met_grew a old new c more (p x c j)
-
--- an error is no success
-not_ok : {E : Type 0} (r : Result (Unit {0}) E) → is_err r ≡ true → is_ok r ≡ false
-not_ok (Ok x) h = absurd (false≢true h)
-not_ok (Err e) h = refl
-
--- a step that ran out of room ends all that follow
-pub step_stopped : {E : Type 0} (a : Asked) (old mid new : List Placed) (ok : Bool) (r : Result (Unit {0}) E) (G H : List Placed → Type 0) → ok ≡ false → is_err r ≡ true → Grew old mid → Step a mid new ok G → Step a old new (is_ok r) H
-step_stopped a old mid new ok r G H e h g s = record { gathered = s.gathered; grew = grew_trans old mid new g s.grew; done = λ z. absurd (both_ways (is_ok r) (not_ok r h) z); full = λ _. s.full e }
 
 -- ## One lever
 
@@ -89,9 +80,6 @@ module _ (ps : List ℕ) (g h : Placed) (k : ℕ) (climbs : climbing 0 ps ≡ tr
         (λ e. inl (joined_over ps g h j k climbs l signs (spelled_sign ps g k climbs l ∙ e.0) (spelled_sign ps h k climbs l ∙ e.1)))
         (λ e. inr (joined_over ps h g j k climbs l (λ i. signs i ∙ ap (cond (eqb i k) None) (joint_turned (sign_on g i) (sign_on h i))) (spelled_sign ps h k climbs l ∙ e.1) (spelled_sign ps g k climbs l ∙ e.0)))
         (opposed_either (sign_on g k) (sign_on h k) o)
-
-    pub joined_within : Within (length ps) g → Within (length ps) h → Within (length ps) j
-    joined_within v w i m = signs i ∙ cond-false (eqb i k) None (joint (sign_on g i) (sign_on h i)) (ne_eqb i k (λ e. omega arith)) ∙ (λ z. joint (v i m z) (w i m z))
 
 -- what meets the combination that was made meets each
 pub met_joined : (a : Asked) (new : List Placed) (g h j : Placed) (k : ℕ) → Joined (get_or a.plates k 0) (spell a.plates g) (spell a.plates h) (spell a.plates j) → Met a new (spell a.plates j) → PairedAt a new g h k
@@ -166,10 +154,6 @@ before_more a mid new g k l more below here d j m =
 -- what was read at a place stands there, whatever stands past the end
 pub read_at : (xs old new : List Placed) (i : ℕ) (d e : Placed) → xs ≡ old → Grew old new → i < length old → get_or xs i e ≡ get_or new i d
 read_at xs old new i d e is g l = ap (λ gs. get_or gs i e) is ∙ get_or_default old i e d l ∙ sym (grew_at old new i d g l)
-
--- a new group that was read has its levers in the frame
-pub read_within : (a : Asked) (xs new : List Placed) (i : ℕ) (e : Placed) → xs ≡ new → Gathered a new → i < length new → Within (length a.plates) (get_or xs i e)
-read_within a xs new i e is g l = subst (λ gs. Within (length a.plates) (get_or gs i e)) (sym is) (All-get_or (Fresh a) new i e l g.fresh).within
 
 -- ## One new group after the other
 

@@ -2,7 +2,7 @@
 use Rattle.std.proofs.Common.{◌≡◌, ℕ, ◌≤◌, Bool, true, false, cond, not, ◌||◌, ltb, List, [], ◌∷◌, ◌++◌, length, sym, refl, ap, ◌∙◌, subst, ⊎_elim, arith}
 use Rattle.std.proofs.ByRecursion.{All-push, All-weaker}
 use Rattle.std.proofs.lemmas.List.{append-nil, map-append}
-use Rattle.std.proofs.lemmas.Bool.{or_cases, or_parts, or_left, or_right, or_from, not-true, not-false, cases_Bool, both_ways, false≢true, ltb-false}
+use Rattle.std.proofs.lemmas.Bool.{or_cases, or_parts, or_left, or_right, or_from, not-false, cases_Bool, both_ways, false≢true, ltb-false}
 use Rattle.groups.specs.declared.items.Item.{Item}
 use Rattle.groups.specs.Items.{covers}
 use Rattle.groups.specs.Rises.{climbing}
@@ -18,7 +18,7 @@ use Rattle.placed.specs.Spelling.{spell}
 use Rattle.placed.proofs.Spelled.{spelled_rises}
 use Rattle.rows.specs.Rows.{spell_all, AllWithin}
 use Rattle.telling.specs.Shortened.{Shortened}
-use Rattle.growing.specs.Gathered.{Asked, told_of, Fresh, Apart, Gathered, Met, met_by, Grew, Overfull, Step}
+use Rattle.growing.specs.Gathered.{Asked, Fresh, Apart, Gathered, Met, met_by, Grew, Overfull, Step}
 use Rattle.growing.proofs.Ready.{Ready}
 
 -- ## What is covered
@@ -57,16 +57,6 @@ met_grew a old new c g m k t =
 -- nothing is done, since nothing has to be
 pub step_none : (a : Asked) (new : List Placed) (Goal : List Placed → Type 0) → Gathered a new → Goal new → Step a new new true Goal
 step_none a new Goal g d = record { gathered = g; grew = grew_none new; done = λ _. d; full = λ e. absurd (false≢true (sym e)) }
-
-pub met_already : (a : Asked) (new : List Placed) (c : List Item) → met_by a new c ≡ true → Met a new c
-met_already a new c h k t =
-    ⊎_elim
-    (λ m. m)
-    (λ m. absurd (both_ways (a.crew (stars c)) (not-true (a.crew (stars c)) m) k))
-    (or_cases (covered_by (spell_all a.plates a.table) c || covered_by (spell_all a.plates new) c) (not (a.crew (stars c))) h)
-
-pub met_untold : (a : Asked) (new : List Placed) (c : List Item) → told_of a c ≡ false → Met a new c
-met_untold a new c h k t = absurd (both_ways (told_of a c) h t)
 
 -- ## A group taken in
 

@@ -1,5 +1,5 @@
 -- The groups that one more line adds to a table, as they are gathered. Assumes nothing.
-use Rattle.std.specs.Prelude.{◌≡◌, ℕ, ◌<◌, Bool, true, false, not, ◌||◌, ◌⊎◌, List, [], ◌∷◌, ◌++◌, length, slice_index, slice_index_or, Ok, Err, is_ok, Result}
+use Rattle.std.specs.Prelude.{◌≡◌, ℕ, ◌<◌, Bool, true, false, not, ◌||◌, ◌⊎◌, List, [], ◌∷◌, ◌++◌, length, slice_index, slice_index_or, is_ok, Result}
 use Rattle.std.specs.List.{AllByRecursion}
 use Rattle.groups.specs.declared.items.Item.{Item}
 use Rattle.groups.specs.Items.{covers, Combination}
@@ -112,11 +112,6 @@ ClosedBelow a k new = (i : ℕ) → i < k → PairedOne a i new
 pub record Complete (a : Asked) (new : List Placed) : Type 0 where
   pub line : Met a new (spell a.plates a.line)
   pub closed : ClosedBelow a (length new) new
-
--- what gathering answers: all new groups, or that they are more than 512
-abbrev pub GathersTo : Asked → Result (Row Placed 512) Full → Type 0
-GathersTo a (Ok r) = Gathered a (groups_of r) × Complete a (groups_of r)
-GathersTo a (Err e) = (new : List Placed) × Overfull a new
 
 -- some setting is possible
 pub record Possible (f : Frame) : Type 0 where

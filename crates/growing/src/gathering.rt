@@ -1,11 +1,11 @@
 // Gathering the groups that one more line adds to a table: the line, and all combinations, each shortened.
-ghost use Rattle.std.specs.Prelude.{◌≡◌, ℕ, ◌<◌, false, true, length, slice_index_or};
+ghost use Rattle.std.specs.Prelude.{◌≡◌, ℕ, ◌<◌, false, true, [], length, slice_index_or};
 ghost use Rattle.std.specs.List.{AllByRecursion};
 ghost use Rattle.placed.specs.Signs.{Within};
 ghost use Rattle.placed.specs.Spelling.{spell};
 ghost use Rattle.frames.specs.Fitted.{fitted};
 ghost use Rattle.rows.specs.Rows.{groups_of, AllWithin};
-ghost use Rattle.growing.specs.Gathered.{asked_of, told_of, met_by, Gathered, GathersTo, Met, ShortenedFor, Paired, PairedAt};
+ghost use Rattle.growing.specs.Gathered.{asked_of, told_of, met_by, Complete, Gathered, Met, ShortenedFor, Paired, PairedAt};
 ghost use Rattle.growing.specs.Gathered.{PairedOne, ClosedBelow, StepsTo};
 
 use super::MOST_GROUPS;
@@ -16,19 +16,27 @@ use fixed::row::Row;
 use placed::Placed;
 use telling::{OneMore, covered};
 
+// What holds of the new groups depends on what the crew means, so that each method asks for it.
 impl<'a, C: Crew> Growth<'a, C> {
-    // The line and all combinations, each shortened. Refused where more than 512 groups come up.
-    pub(super) fn gather(&self) -> Result<Row<Placed, MOST_GROUPS>, Full>
-        ensures { GathersTo (asked_of C.Crew.admitted self.now) result }
+    // Takes in the line and all combinations, each shortened, until there is nothing left to combine. Refused where more than
+    // 512 groups come up.
+    pub(super) fn gather(&self, new: &mut Row<Placed, MOST_GROUPS>) -> Result<(), Full>
+        requires { Gathered (asked_of C.Crew.admitted self.now) (groups_of new.old) }
+        ensures { StepsTo C.Crew.admitted self.now new.old new.new result Complete }
     {
-        let mut new = Row::new(Placed::empty());
-        self.consider(&mut new, self.line)?;
-        self.combine_all(&mut new)?;
-        Ok(new)
+        self.consider(new, self.line)?;
+        self.combine_all(new)
+    }
+
+    // Whether no setting is possible with the line: even the group of no items is forbidden then.
+    pub(super) fn leaves_nothing(&self) -> bool
+        ensures { result ≡ told_of (asked_of C.Crew.admitted self.now) [] }
+    {
+        self.tells(Placed::empty())
     }
 
     // Whether a group is forbidden with the line.
-    pub(super) fn tells(&self, group: Placed) -> bool
+    fn tells(&self, group: Placed) -> bool
         ensures { result ≡ told_of (asked_of C.Crew.admitted self.now) (spell (fitted self.now.frame.plates.now) group) }
     {
         self.one_more().tells(group)
@@ -62,7 +70,7 @@ impl<'a, C: Crew> Growth<'a, C> {
         ensures { StepsTo C.Crew.admitted self.now new.old new.new result (λ a news. ClosedBelow a (length news) news) }
     {
         let mut at = 0;
-        // the new groups grow meanwhile, so that no iterator goes over them
+        // a `while`, since the new groups grow meanwhile, and no iterator can go over them
         while at < new.all().len() {
             self.combine_one(new, at)?;
             at += 1;

@@ -111,11 +111,11 @@ impl<'a, C: Crew> Growth<'a, C> {
         ensures grown { GrowsTo (C.Crew.admitted self.now.frame.crew.now) (fitted self.now.frame.plates.now) (groups_of self.now.table.now) self.now.line result }
         ensures within { IfOk result (λ r. AllWithin (length (fitted self.now.frame.plates.now)) (groups_of r)) }
     {
-        if self.tells(Placed::empty()) {
+        if self.leaves_nothing() {
             return Err(Stop::NothingPossible);
         }
-        let new = self.gather()?;
-        let grown = merging::merge(self.table, &new)?;
-        Ok(grown)
+        let mut new = Row::new(Placed::empty());
+        self.gather(&mut new)?;
+        Ok(merging::merge(self.table, &new)?)
     }
 }

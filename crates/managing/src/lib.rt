@@ -2,9 +2,8 @@
 // specs/Standing.antt has the frame that is meant.
 #![tactic(auto)]
 
-ghost use Rattle.std.specs.Prelude.{◌≡◌, ◌≤◌, true, length};
+ghost use Rattle.std.specs.Prelude.{◌≡◌, true};
 ghost use Rattle.fixed.specs.Rows.{held};
-ghost use Rattle.groups.specs.Rises.{climbing};
 ghost use Rattle.meaning.specs.Crews.{askable};
 ghost use Rattle.meaning.specs.Frames.{starred, stars};
 ghost use Rattle.placed.specs.Spelling.{spell};
@@ -13,6 +12,7 @@ ghost use Rattle.frames.specs.Fitted.{fitted};
 use crews::crew::Crew;
 use fixed::row::Row;
 use frames::methods::MOST_LEVERS;
+use frames::plates::Plates;
 use groups::items::Sign;
 use manned::Manned;
 use placed::Placed;
@@ -24,20 +24,18 @@ impl<'a, C: Crew> Manned<'a, C> {
     pub fn manages(self, group: Placed) -> bool
         ensures { result ≡ C.Crew.admitted self.entry.crew.now (stars (spell (fitted self.entry.plates.now) group)) }
     {
-        let moving = between(self.plates.all(), group);
+        let moving = between(self.plates, group);
         self.crew.admits(moving.all())
     }
 }
 
 // The plates that a group has with *, in rising order.
-fn between(plates: &[u32], group: Placed) -> Row<u32, MOST_LEVERS>
-    requires rises { climbing 0 plates.now ≡ true }
-    requires few { length plates.now ≤ 32 }
-    ensures stars { held result ≡ stars (spell plates.now group) }
+fn between(plates: &Plates, group: Placed) -> Row<u32, MOST_LEVERS>
+    ensures stars { held result ≡ stars (spell (fitted plates.now) group) }
     ensures askable { askable (held result) ≡ true }
 {
     let mut moving = Row::new(0);
-    for (place, plate) in plates.iter().enumerate() {
+    for (place, plate) in plates.all().iter().enumerate() {
         if is_star(group.sign(place)) {
             let _ = moving.push(*plate);
         }

@@ -5,4 +5,4 @@ use Rattle.placed.specs.Spelling.{spell}
 use Rattle.managing.proofs.between.Given as goal
 
 abbrev pub invariant-loop-place : goal.invariant-loop-place
-invariant-loop-place l = (length (held l.moving) ≤ l.place) × (held l.moving ≡ stars (spell (take l.place l.plates) l.group))
+invariant-loop-place l = (length (held l.moving) ≤ l.place) × (held l.moving ≡ stars (spell (take l.place l.plate-items) l.group))

@@ -1,7 +1,7 @@
 -- The plates that a group has with *, one place after the other, and that a crew can be asked about them. Assumes nothing.
 use Rattle.std.proofs.Common.{◌≡◌, ℕ, ◌+◌, ◌<◌, ◌≤◌, Bool, true, false, cond, List, [], ◌∷◌, ◌++◌, map, length, get_or, take, filter, Option, refl, ap, ◌∙◌, arith}
 use Rattle.std.proofs.lemmas.List.Elements.{filter-append}
-use Rattle.std.proofs.lemmas.List.{map-append, append-nil, length-take-le}
+use Rattle.std.proofs.lemmas.List.{map-append, append-nil}
 use Rattle.std.proofs.lemmas.Bool.{and_from, le-leb}
 use Rattle.groups.specs.declared.items.Item.{Item}
 use Rattle.groups.specs.declared.items.Sign.{Sign}
@@ -15,8 +15,6 @@ use Rattle.placed.specs.declared.Placed.{Placed}
 use Rattle.placed.specs.Signs.{sign_on}
 use Rattle.placed.specs.Spelling.{spell}
 use Rattle.placed.proofs.Spelled.{spelled_rises}
-use Rattle.frames.specs.declared.plates.Plates.{Plates}
-use Rattle.frames.specs.Fitted.{fitted}
 use Rattle.frames.proofs.Written.{spell_more, few_from}
 
 stars_append : (xs ys : List Item) → stars (xs ++ ys) ≡ stars xs ++ stars ys

@@ -17,7 +17,7 @@ use placed::Placed;
 use telling::{OneMore, covered};
 
 // What holds of the new groups depends on what the crew means, so that each method asks for it.
-impl<'a, C: Crew> Growth<'a, C> {
+impl<C: Crew> Growth<'_, C> {
     // Takes in the line and all combinations, each shortened, until there is nothing left to combine. Refused where more than
     // 512 groups come up.
     pub(super) fn gather(&self, new: &mut Row<Placed, MOST_GROUPS>) -> Result<(), Full>

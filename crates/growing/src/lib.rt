@@ -105,7 +105,7 @@ fn nothing_possible() -> Row<Placed, MOST_GROUPS>
     row
 }
 
-impl<'a, C: Crew> Growth<'a, C> {
+impl<C: Crew> Growth<'_, C> {
     // The table with the line: what the line adds, unless nothing would be possible, merged with the table so far.
     fn grown(&self) -> Result<Row<Placed, MOST_GROUPS>, Stop>
         ensures grown { GrowsTo (C.Crew.admitted self.now.frame.crew.now) (fitted self.now.frame.plates.now) (groups_of self.now.table.now) self.now.line result }

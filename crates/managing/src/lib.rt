@@ -19,7 +19,7 @@ use placed::Placed;
 
 pub mod manned;
 
-impl<'a, C: Crew> Manned<'a, C> {
+impl<C: Crew> Manned<'_, C> {
     // Whether the crew can manage a group.
     pub fn manages(self, group: Placed) -> bool
         ensures { result ≡ C.Crew.admitted self.entry.crew.now (stars (spell (fitted self.entry.plates.now) group)) }

@@ -59,7 +59,7 @@ impl OneMore<'_> {
     }
 
     // Whether no setting that shows the group gets by on the line's item at a place.
-    #[tactic(auto, using(crate::proofs::Steps::told_filled, crate::proofs::Steps::told_open, crate::proofs::Steps::told_opposite))]
+    #[tactic(auto, using(crate::proofs::Steps::told_filled, crate::proofs::Steps::told_open))]
     fn settled(&self, group: Placed, place: usize) -> bool
         ensures { SettledOver self.now.table.now self.now.line group place result }
     {

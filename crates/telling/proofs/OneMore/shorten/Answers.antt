@@ -1,4 +1,3 @@
-use Rattle.std.proofs.Common.{arith}
 use Rattle.placed.specs.Spelling.{spell}
 use Rattle.rows.specs.Rows.{spell_all}
 use Rattle.telling.proofs.Drops.{upto_more}
@@ -11,8 +10,3 @@ loop-place-preserved c ps h e w t =
     let inv = c.loop-place.invariant ps h e w t in
     upto_more ps (spell_all ps more.table.now) (spell ps more.line) k c.args.group c.loop-place.short c.drop_at-short.result h.climbs inv
     (c.drop_at-short.ensures c.loop-place-test.true ps h e inv.shorter.within inv.shorter.told)
-
-pub returns : goal.returns
-returns c ps h e w t =
-    let inv = c.loop-place.invariant ps h e w t in
-    record { shorter = inv.shorter; firm = λ j l. inv.firm j (omega (arith, c.loop-place-test.false)) }

@@ -1,6 +1,6 @@
-use Rattle.std.proofs.Common.{◌≡◌, true, [], ◌∷◌, ◌++◌, ap, ◌∙◌, arith}
+use Rattle.std.proofs.Common.{◌≡◌, true, [], ◌∷◌, ◌++◌, ap, ◌∙◌}
 use Rattle.groups.specs.Rises.{climbing}
-use Rattle.frames.proofs.Fitting.{climbs_first, climbs_behind}
+use Rattle.frames.proofs.Fitting.{climbs_behind}
 use Rattle.frames.proofs.plates.Plates.is_below.Goals as goal
 
 pub returns-in-Some : goal.returns-in-Some
@@ -9,9 +9,3 @@ returns-in-Some c =
     let rises : climbing 0 ps ≡ true = ap (climbing 0) c.all.ensures ∙ c.args.self.now.rises in
     let read = c.in-Some.ensures.item.3 in
     cc (read.1 0, climbs_behind ps c.args.plate rises c.requires read.0) ∙ ap (λ l. climbing 0 (l ++ (c.args.plate ∷ []))) c.all.ensures
-
-pub returns-in-None : goal.returns-in-None
-returns-in-None c =
-    let ps = c.all.result.now in
-    let rises : climbing 0 ps ≡ true = ap (climbing 0) c.all.ensures ∙ c.args.self.now.rises in
-    climbs_first ps c.args.plate rises c.requires (omega (arith, c.in-None.ensures.item.3)) ∙ ap (λ l. climbing 0 (l ++ (c.args.plate ∷ []))) c.all.ensures

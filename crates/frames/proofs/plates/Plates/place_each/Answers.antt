@@ -4,11 +4,8 @@ use Rattle.groups.specs.Items.{rising}
 use Rattle.groups.proofs.Rising.{blank}
 use Rattle.frames.specs.Fitted.{fitted, LowestMissing}
 use Rattle.fixed.proofs.Few.{few_held}
-use Rattle.frames.proofs.Placing.{Placing, placing_none, placing_more, placing_all, lowest_here}
+use Rattle.frames.proofs.Placing.{Placing, placing_more, placing_all, lowest_here}
 use Rattle.frames.proofs.plates.Plates.place_each.Goals as goal
-
-pub loop-item-init : goal.loop-item-init
-loop-item-init c = placing_none (fitted c.args.self.now) c.items-item-items.result.now c.empty-placed.result c.empty-placed.ensures
 
 pub returns-in-None : goal.returns-in-None
 returns-in-None c =

@@ -1,15 +1,10 @@
 use Rattle.std.proofs.Common.{◌≡◌, ◌<◌, true, length, sym, ap, ◌∙◌, arith}
-use Rattle.std.proofs.lemmas.List.{take_all}
 use Rattle.groups.specs.Groups.{items_of}
 use Rattle.groups.specs.Rises.{climbing}
-use Rattle.placed.specs.Spelling.{spell}
 use Rattle.fixed.proofs.Few.{few_held}
 use Rattle.frames.proofs.Written.{spell_skip, spell_put}
 use Rattle.frames.proofs.plates.Plates.spell_each.Goals as goal
 use Rattle.frames.proofs.plates.Plates.spell_each.Goals.{in-Some, in_default}
-
-pub loop-place-init : goal.loop-place-init
-loop-place-init c = c.new-group.ensures
 
 pub loop-place-preserved : goal.loop-place-preserved
 loop-place-preserved c =
@@ -21,8 +16,3 @@ loop-place-preserved c =
       | in-Some w ↦ ap items_of w.group-is ∙ spell_put ps n c.args.placed c.loop-place-test.true w.in-Some.sign rises low (sym w.in-Some.ensures) (items_of c.loop-place.group) (items_of w.insert.new.self) w.insert.result c.loop-place.invariant w.insert.ensures.taken w.insert.ensures.after
       | in_default w ↦ ap items_of w.group-is ∙ c.loop-place.invariant ∙ spell_skip ps n c.args.placed c.loop-place-test.true (sym w.in_default.ensures)
     ]
-
-pub returns : goal.returns
-returns c =
-    c.loop-place.invariant
-    ∙ ap (λ ps. spell ps c.args.placed) (take_all c.loop-place.place c.all-plate-items.result.now c.loop-place-test.false ∙ c.all-plate-items.ensures)

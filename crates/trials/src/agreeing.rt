@@ -1,7 +1,7 @@
 // Lists that agree.
 
 // Whether two lists are as long as each other, and agree item by item.
-pub fn agree<A, B, F: Fn(&A, &B) -> bool>(these: &[A], those: &[B], alike: F) -> bool
+pub(super) fn agree<A, B, F: Fn(&A, &B) -> bool>(these: &[A], those: &[B], alike: F) -> bool
     requires { F.IsAlwaysCallable alike }
 {
     these.len() == those.len()

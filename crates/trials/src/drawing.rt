@@ -12,7 +12,11 @@ pub struct Drawn {
 }
 
 // Draws so many frames.
-pub fn draw_all(heap: Global, lottery: &mut Lottery, count: u32) -> Result<Vec<Drawn>, AllocError> {
+pub(super) fn draw_all(
+    heap: Global,
+    lottery: &mut Lottery,
+    count: u32,
+) -> Result<Vec<Drawn>, AllocError> {
     let mut frames = Vec::new(heap);
     for _ in 0..count {
         frames.push(draw(heap, lottery)?)?;

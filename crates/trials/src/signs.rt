@@ -52,13 +52,13 @@ impl Marks {
     }
 
     // Every group of so many levers.
-    pub fn every(heap: Global, levers: usize) -> Result<Vec<Marks>, AllocError> {
+    pub(super) fn every(heap: Global, levers: usize) -> Result<Vec<Marks>, AllocError> {
         let signs = [Mark::Plus, Mark::Minus, Mark::Star];
         every(heap, Marks::empty(), levers, &signs, Marks::with)
     }
 
     // The group with the lever at a place given a sign, whatever sign it had.
-    pub fn with(mut self, place: usize, mark: Mark) -> Marks {
+    pub(super) fn with(mut self, place: usize, mark: Mark) -> Marks {
         if let Some(held) = self.marks.get_mut(place) {
             *held = Some(mark);
         }
@@ -75,7 +75,7 @@ impl Marks {
 
 impl Setting {
     // Every setting of so many levers.
-    pub fn every(heap: Global, levers: usize) -> Result<Vec<Setting>, AllocError> {
+    pub(super) fn every(heap: Global, levers: usize) -> Result<Vec<Setting>, AllocError> {
         let normal = Setting {
             states: [State::Normal; MOST_TRIED],
         };

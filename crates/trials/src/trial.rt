@@ -168,7 +168,7 @@ fn plates_with<T: PartialEq>(
 }
 
 // The items of a group, by the plates of the levers.
-pub fn list(heap: Global, plates: &[u32], group: &Marks) -> Result<Listing, AllocError> {
+pub(super) fn list(heap: Global, plates: &[u32], group: &Marks) -> Result<Listing, AllocError> {
     plates
         .iter()
         .zip(group.marks.iter())

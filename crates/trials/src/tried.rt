@@ -16,7 +16,7 @@ pub enum Tried {
 
 impl Tried {
     // The crew for a frame.
-    pub fn of_frame(self, frame: &Drawn) -> AnyCrew {
+    pub(super) fn of_frame(self, frame: &Drawn) -> AnyCrew {
         match self {
             Tried::Hands(count) => AnyCrew::Hands(Hands::new(count)),
             Tried::Split => AnyCrew::Split(Split::new(frame.parted)),

@@ -1,9 +1,10 @@
 -- The lines gone through from the last to the first, and those that are kept. Assumes nothing.
 use Rattle.std.proofs.Common.{◌≡◌, ℕ, ◌+◌, ◌<◌, ◌≤◌, Bool, true, false, cond, nat_lt, List, [], ◌∷◌, ◌++◌, length, sym, refl, ap, ◌∙◌, subst, arith, append_assoc}
 use Rattle.std.proofs.lemmas.Bool.{cond-true, lt-ltb}
-use Rattle.std.proofs.lemmas.List.{map-append, append-nil, length-append, length-take-le, length_push}
+use Rattle.std.proofs.lemmas.List.{map-append, append-nil, length-append, length_push}
 use Rattle.fixed.specs.declared.row.Row.{Row}
 use Rattle.fixed.specs.Rows.{held}
+use Rattle.fixed.proofs.Few.{few_held}
 use Rattle.meaning.specs.Crews.{Admits}
 use Rattle.meaning.specs.Frames.{Frame}
 use Rattle.meaning.specs.CutLists.{CutFrom, end, leave, keep, IsCutList}
@@ -75,15 +76,12 @@ module _ (crew : Admits) (ps : List ℕ) (lines before kept : List Placed) (line
   one_gone first after r g e t a =
       subst (GoneThrough crew ps lines before) (sym a) (more (subst (λ xs. GoneThrough crew ps lines xs kept) e g) r t)
 
-row_few : (row : Row Placed 128) → length (held row) ≤ 128
-row_few row = omega (arith, row.few, length-take-le row.count row.places (omega (arith, row.long, row.few)))
-
 -- one line that is kept: there is room for as many as there are
 pub one_kept : (crew : Admits) (ps : List ℕ) (all old new : Row Placed 128) (first before : List Placed) (line : Placed) (r ok : Bool) → GoneThrough crew ps (held all) first (held old) → first ≡ before ++ (line ∷ []) → Told (frame_of crew ps (held all)) (spell_all ps (before ++ held old)) (spell ps line) r → r ≡ true → ok ≡ nat_lt (length (held old)) 128 → held new ≡ cond ok (line ∷ held old) (held old) → GoneThrough crew ps (held all) before (held new)
 one_kept crew ps all old new first before line r ok gone e told stays room is =
     let many : length (held all) ≡ length first + length gone.behind = ap length gone.all ∙ length-append first gone.behind in
     let one : length first ≡ length before + 1 = ap length e ∙ length_push before line in
-    let fits : length (held old) < 128 = omega (arith, gone.few, row_few all) in
+    let fits : length (held old) < 128 = omega (arith, gone.few, few_held all) in
     one_gone crew ps (held all) before (held old) line first (held new) r gone e told
     (is
     ∙ cond-true ok (line ∷ held old) (held old) (room ∙ lt-ltb (length (held old)) 128 fits)

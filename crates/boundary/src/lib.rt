@@ -34,7 +34,7 @@ const LINE_BYTES: usize = 16;
 const ENTERED: u8 = 0;
 
 // Enters the lines one after the other, and writes what became of each, and the groups of the table. How many groups the
-// table has.
+// table has. C passes the crew's kind as a number, here and below.
 #[unsafe(no_mangle)]
 pub extern "C" fn boundary_table(
     levers: u32,

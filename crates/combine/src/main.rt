@@ -131,7 +131,7 @@ fn write_line<W: Write>(buffer: &[u8], length: Option<usize>, out: &mut W) -> io
     out.write_all(b"\n")
 }
 
-// Every group that was read, by its places in the frame.
+// Every group that was read, by its places in the frame. A `for`, since each turn may run out of memory.
 fn place_all(heap: Global, plates: &Plates, entries: &[Entry]) -> io::Result<Vec<Numbered>> {
     let mut groups = Vec::new(heap);
     for entry in entries {
@@ -145,7 +145,7 @@ fn place_all(heap: Global, plates: &Plates, entries: &[Entry]) -> io::Result<Vec
     Ok(groups)
 }
 
-// Writes the combinations of each two groups, and answers how many there are.
+// Writes the combinations of each two groups, and answers how many there are. Each turn writes, which may fail.
 fn write_combinations<W: Write>(
     plates: &Plates,
     groups: &[Numbered],
@@ -160,7 +160,7 @@ fn write_combinations<W: Write>(
     Ok(count)
 }
 
-// Writes the combinations of two groups, by rising plates, and answers how many there are.
+// Writes the combinations of two groups, by rising plates, and answers how many there are. Each turn writes, which may fail.
 fn write_pair<W: Write>(
     plates: &Plates,
     first: Numbered,

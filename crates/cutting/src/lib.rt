@@ -67,7 +67,7 @@ fn stays<C: Crew>(frame: Manned<'_, C>, search: Search<'_>, line: Placed) -> boo
     frame.manages(line) && search.escapes(line)
 }
 
-// The levers of a frame: a place for each plate.
+// The levers of a frame: a place for each plate. A `fold` is no shorter.
 fn levers_of(plates: &Plates) -> Levers
     ensures { LeversOf (fitted plates.now) result }
 {

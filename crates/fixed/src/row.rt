@@ -15,6 +15,8 @@ pub struct Row<T, const N: usize> {
 impl<T: Copy, const N: usize> Clone for Row<T, N> {
     ghost is_infallible = { λ _. Unit {0} };
 
+    ghost is_clone = { λ row copy. copy ≡ row };
+
     fn clone(&self) -> Result<Row<T, N>, AllocError> {
         Ok(*self)
     }

@@ -108,7 +108,8 @@ impl Plates {
         let _ = self.plates.push(plate);
     }
 
-    // The group of the items by the places of their plates.
+    // The group of the items by the places of their plates. Apart from `place`, as the two below are from their calls: tried as
+    // one function, it has answers, and a wrong call is refused in these first.
     fn place_each(&self, group: &Group) -> Result<Placed, Fault>
         ensures { PlacesTo (fitted self.now) (items_of group.now) result }
     {

@@ -76,7 +76,7 @@ impl Group {
     }
 }
 
-// The sign that items give a plate, if they name it.
+// The sign that items give a plate, if they name it. Apart from `sign_of`, whose edit would be refused in the answer here first.
 fn sign_among(items: &[Item], plate: u32) -> Option<Sign>
     ensures { result ≡ sign_at items.now plate }
 {

@@ -16,7 +16,8 @@ use fixed::row::Row;
 use placed::Placed;
 use telling::{OneMore, covered};
 
-// What holds of the new groups depends on what the crew means, so that each method asks for it.
+// What holds of the new groups depends on what the crew means, which a type can't keep, so that each method asks for it; and
+// for its own group and place to be within the frame and the row.
 impl<C: Crew> Growth<'_, C> {
     // Takes in the line and all combinations, each shortened, until there is nothing left to combine. Refused where more than
     // 512 groups come up.

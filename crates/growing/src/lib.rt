@@ -70,7 +70,7 @@ pub fn from_lines<C: Crew>(
     ensures within { IfOk result (λ r. AllWithin (length (fitted frame.entry.plates.now)) (groups_of r)) }
 {
     let mut table = Row::new(Placed::empty());
-    // by place, since what is known of a table is of the first lines up to there
+    // by place, since what `with_next` asks and promises is of the first lines up to there
     for at in 0..lines.len() {
         table = with_next(frame, lines, at, &table)?;
     }

@@ -74,7 +74,7 @@ impl Line {
         let _ = self.bytes.push(byte);
     }
 
-    // A text behind the text, byte by byte.
+    // A text behind the text, byte by byte. Apart from `put_text` for the same reason as the digits below.
     fn append(&mut self, text: &[u8])
         ensures { text_of self.new ≡ cut (text_of self.old ++ text.now) }
     {
@@ -83,7 +83,8 @@ impl Line {
         }
     }
 
-    // The digits of a number behind the text, the front ones first.
+    // The digits of a number behind the text, the front ones first. Apart from `put_number`, whose edit would be refused in the
+    // answer here first; by hand, as the library writes no number into memory of one's own.
     fn append_digits(&mut self, number: u64)
         ensures after { text_of self.new ≡ cut (text_of self.old ++ decimal number) }
         ensures short { length (decimal number) ≤ 20 }

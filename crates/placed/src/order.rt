@@ -75,7 +75,7 @@ impl Placed {
     }
 }
 
-// Which of two signs comes first: + before - before *, and a sign before none.
+// Which of two signs comes first: + before - before *, and a sign before none, where the order of `Option` has none first.
 fn order_of_signs(sign: Option<Sign>, other: Option<Sign>) -> Ordering
     ensures { MatchOrdering result (rank_if sign < rank_if other) (sign ≡ other) (rank_if other < rank_if sign) }
 {

@@ -43,10 +43,7 @@ fn number_due(token: &Token) -> Result<u32, TextFault>
     ensures value { result ≡ number_due (token_place token.now) (token_digits token.now) }
     ensures plate { IfOk result (λ p. is_plate p ≡ true) }
 {
-    match plate_of(token.digits()) {
-        Some(plate) => Ok(plate),
-        None => Err(Refusal::Number.at_byte(token.place())),
-    }
+    plate_of(token.digits()).ok_or(Refusal::Number.at_byte(token.place()))
 }
 
 // The number of an item is due, where there is room for so many items behind those of the group.

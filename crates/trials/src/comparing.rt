@@ -133,7 +133,7 @@ fn is_listed(items: &[Item], listing: &[(u32, Mark)]) -> bool {
     })
 }
 
-// The groups of the lines.
+// The groups of the lines. A `for`, since each turn may run out of memory.
 fn spell_all(heap: Global, plates: &[u32], lines: &[Marks]) -> Result<Vec<Group>, AllocError> {
     let mut groups = Vec::new(heap);
     for line in lines {

@@ -11,7 +11,7 @@ pub struct Drawn {
     pub parted: u32,
 }
 
-// Draws so many frames.
+// Draws so many frames. A `for`, here and below, since each turn may run out of memory.
 pub(super) fn draw_all(
     heap: Global,
     lottery: &mut Lottery,

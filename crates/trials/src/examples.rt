@@ -135,7 +135,7 @@ pub fn fan(heap: Global, counts: [u32; 3]) -> Result<Option<Outcome>, AllocError
     Ok(ran.map(|ran| ran.outcome))
 }
 
-// The lines of a fan.
+// The lines of a fan. A `for`, since each turn may run out of memory.
 fn fan_lines(heap: Global, counts: [u32; 3]) -> Result<Vec<Group>, AllocError> {
     const HUBS: [u32; 3] = [1, 2, 3];
     let mut lines = Vec::new(heap);

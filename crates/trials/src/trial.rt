@@ -17,7 +17,8 @@ pub struct Trial {
     pub ended_by: Option<Marks>,
 }
 
-// Tries every setting and every group. The first line that would leave no possible setting ends the frame.
+// Tries every setting and every group. The first line that would leave no possible setting ends the frame. Memory, the crew
+// and the plates go down from here one by one: a struct of them would only be taken apart again.
 pub fn try_all<C: Crew>(
     heap: Global,
     crew: &C,
@@ -98,7 +99,7 @@ fn shown(settings: &[Setting], group: &Marks) -> bool {
     settings.iter().any(|setting| setting.shows(group))
 }
 
-// The listings of the groups that no other of them covers, in order.
+// The listings of the groups that no other of them covers, in order. A `for`, since each turn may run out of memory.
 fn shortest(heap: Global, plates: &[u32], forbidden: &[Marks]) -> Result<Vec<Listing>, AllocError> {
     let mut table = Vec::new(heap);
     for group in forbidden {

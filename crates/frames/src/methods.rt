@@ -109,7 +109,8 @@ impl Plates {
     }
 
     // The group of the items by the places of their plates. Apart from `place`, as the two below are from their calls: tried as
-    // one function, it has answers, and a wrong call is refused in these first.
+    // one function, it has answers, and a wrong call is refused in these first. `ok_or` and `?` for the `match` is no shorter: the
+    // refusal would be made for each item.
     fn place_each(&self, group: &Group) -> Result<Placed, Fault>
         ensures { PlacesTo (fitted self.now) (items_of group.now) result }
     {

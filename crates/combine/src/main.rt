@@ -58,7 +58,7 @@ fn main(rt: HostRuntime) -> io::Result<()> {
     out.flush()
 }
 
-// The whole answer to an input.
+// The whole answer to an input. Its last line is put together by `Line`, as all that is written is.
 fn report<W: Write>(heap: Global, input: &[u8], out: &mut W) -> io::Result<()> {
     if input.is_empty() {
         return out.write_all(b"nothing to read\n");
@@ -124,7 +124,7 @@ fn read_line<W: Write>(text: &[u8], number: u32, out: &mut W) -> io::Result<Opti
     }
 }
 
-// Writes the text at the front of a buffer, if there is one, and a line feed.
+// Writes the text at the front of a buffer, if there is one, and a line feed. The calls that write answer the length.
 fn write_line<W: Write>(buffer: &[u8], length: Option<usize>, out: &mut W) -> io::Result<()> {
     let text = length.and_then(|n| buffer.get(..n)).unwrap_or(&[]);
     out.write_all(text)?;

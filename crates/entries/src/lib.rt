@@ -17,7 +17,7 @@ use placed::Placed;
 use reading::reader::read_group;
 use writing::write_nothing;
 
-// A group that was read, and how many bytes of the buffer its answer line takes.
+// A group that was read, and how many bytes of the caller's buffer its answer line takes, as each call that writes says.
 #[derive(Drop)]
 pub struct Reading {
     pub group: Group,

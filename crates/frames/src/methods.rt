@@ -162,7 +162,8 @@ impl TryFrom<&[u32]> for Plates {
     }
 }
 
-// The place of a plate, counted from 0, if it is there.
+// The place of a plate, counted from 0, if it is there. Apart from `find`: the chain is proved over a list, and not over what
+// `all` gives.
 fn place_among(plates: &[u32], plate: u32) -> Option<usize>
     ensures { result ≡ place_in plates.now plate }
 {

@@ -45,7 +45,8 @@ pub fn write_nothing(buffer: &[u8]) -> Result<Option<usize>, Fault>
     Ok(None)
 }
 
-// Writes a number, or nothing where there is none.
+// Writes a number, or nothing where there is none. One function with `write_group` would have to carry a whole line in an
+// `Option`.
 pub fn write_number(number: Option<u32>, buffer: &mut [u8]) -> Result<Option<usize>, Fault>
     ensures answer { result ≡ write_answer (option_map decimal number) buffer.old }
     ensures after { buffer.new ≡ write_after (option_map decimal number) buffer.old }

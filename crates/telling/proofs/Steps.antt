@@ -1,6 +1,7 @@
 -- The steps by which the table tells: the groups of the table, the places of the line, one place. Assumes nothing.
-use Rattle.std.proofs.Common.{◌≡◌, ℕ, zero, suc, ◌+◌, ◌<◌, ◌≤◌, Bool, true, false, cond, ◌&&◌, eqb, ltb, ◌⊎◌, List, [], ◌∷◌, ◌++◌, length, get_or, Some, None, Option, sym, refl, ap, ◌∙◌, subst, inl, inr, ⊎_elim, arith}
+use Rattle.std.proofs.Common.{◌||◌, drop, ◌≡◌, ℕ, zero, suc, ◌+◌, ◌<◌, ◌≤◌, Bool, true, false, cond, ◌&&◌, eqb, ltb, ◌⊎◌, List, [], ◌∷◌, ◌++◌, length, get_or, Some, None, Option, sym, refl, ap, ◌∙◌, subst, inl, inr, ⊎_elim, arith}
 use Rattle.std.proofs.ByRecursion.{All-get_or}
+use Rattle.std.proofs.lemmas.List.{at_drop_more, at_drop_all}
 use Rattle.std.specs.Bool.{MatchBool}
 use Rattle.std.specs.List.{AllWithin as AllOf, HoldsAt, range_with_len}
 use Rattle.std.proofs.lemmas.List.FromFn.{length-range_with_len, get_or-range_with_len}
@@ -14,8 +15,6 @@ use Rattle.groups.proofs.Rising.{same_signs, insert_rises, insert_sign}
 use Rattle.meaning.specs.Tables.{covered_by}
 use Rattle.meaning.specs.Laws.{all_settled}
 use Rattle.placed.specs.declared.Placed.{Placed}
-use Rattle.placed.specs.Laws.{CoversOver}
-use Rattle.placed.proofs.Ends.{blank}
 use Rattle.placed.specs.Signs.{Within, sign_on}
 use Rattle.placed.specs.Spelling.{spell, spell_from}
 use Rattle.placed.proofs.Spelled.{spelled_sign, spelled_none, spelled_rises}
@@ -40,12 +39,22 @@ covered_nowhere ps (a ∷ table) g d h = or_from _ _ (h 0 (omega arith)) (covere
 pub within_at : (ps : List ℕ) (table : List Placed) (i : ℕ) (d : Placed) → i < length table → AllWithin (length ps) table → Within (length ps) (get_or table i d)
 within_at ps table i d l w = All-get_or (Within (length ps)) table i d l w
 
--- what a search through the table for one that covers answers
-pub covered_told : (ps : List ℕ) (table : List Placed) (g : Placed) (r : Bool) → Holds ps table → MatchBool r ((k : ℕ) × (k < length table) × HoldsAt (λ a. CoversOver a g true) table k) (AllOf (λ a. CoversOver a g false) table 0 (length table)) → r ≡ covered_by (spell_all ps table) (spell ps g)
-covered_told ps table g true h m =
-    sym (covered_at ps table (spell ps g) m.0 blank m.1 (sym (m.2 blank ps h.climbs (within_at ps table m.0 blank m.1 h.within))))
-covered_told ps table g false h m =
-    sym (covered_nowhere ps table (spell ps g) blank (λ j l. sym (m j blank (omega arith) l ps h.climbs (within_at ps table j blank l h.within))))
+-- the groups from one place on
+module _ (ps : List ℕ) (table : List Placed) (g : Placed) (i : ℕ) (d : Placed) (l : i < length table) where
+  abbrev pub CoveredFrom : ℕ → Bool
+  CoveredFrom k = covered_by (spell_all ps (drop k table)) (spell ps g)
+
+  covered_next : CoveredFrom i ≡ (covers (spell ps (get_or table i d)) (spell ps g) || CoveredFrom (i + 1))
+  covered_next = at_drop_more (λ gs. covered_by (spell_all ps gs) (spell ps g)) table i d l
+
+  pub covered_here : covers (spell ps (get_or table i d)) (spell ps g) ≡ true → CoveredFrom i ≡ true
+  covered_here h = covered_next ∙ ap (λ b. b || CoveredFrom (i + 1)) h
+
+  pub covered_later : covers (spell ps (get_or table i d)) (spell ps g) ≡ false → CoveredFrom (i + 1) ≡ CoveredFrom i
+  covered_later h = sym (covered_next ∙ ap (λ b. b || CoveredFrom (i + 1)) h)
+
+pub covered_end : (ps : List ℕ) (table : List Placed) (g : Placed) (i : ℕ) → length table ≤ i → covered_by (spell_all ps (drop i table)) (spell ps g) ≡ false
+covered_end ps table g i l = at_drop_all (λ gs. covered_by (spell_all ps gs) (spell ps g)) table i l
 
 -- ## The places of the line
 

@@ -34,12 +34,17 @@ pub fn covered(table: &[Placed], group: Placed) -> bool
     any_covers(table, group)
 }
 
-// Whether one of the groups covers a group, one after the other. Tried in place of `covered`: the chain needs an answer, and a
-// wrong group in it is then refused in the proof and not here.
+// Whether one of the groups covers a group, one after the other. A `for`: with `any`, which was tried, growing a table takes up
+// to a third more time. Apart from `covered`, whose edit would be refused in the answers here first.
 fn any_covers(table: &[Placed], group: Placed) -> bool
     ensures { CoveredOver table.now group result }
 {
-    table.iter().any(|other| other.covers(group))
+    for other in table {
+        if other.covers(group) {
+            return true;
+        }
+    }
+    false
 }
 
 impl OneMore<'_> {

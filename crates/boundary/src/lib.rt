@@ -45,8 +45,8 @@ pub extern "C" fn boundary_table(
     groups: &mut [u8],
 ) -> usize {
     let plates = plates_up_to(levers);
-    // One engine for each crew: with one that takes any crew, a table takes a sixth more time.
     let plates = &plates;
+    // One engine for each crew: with one that takes any crew, a table takes a sixth more time.
     let table = match crew_of(kind, number) {
         AnyCrew::Free(crew) => enter_all(
             Manned {

@@ -160,13 +160,17 @@ fn write_combinations<W: Write>(
     Ok(count)
 }
 
-// Writes the combinations of two groups, by rising plates, and answers how many there are. Each turn writes, which may fail.
+// Writes the combinations of two groups, by rising plates, and answers how many there are: none where they oppose each other
+// nowhere. Each turn writes, which may fail.
 fn write_pair<W: Write>(
     plates: &Plates,
     first: Numbered,
     second: Numbered,
     out: &mut W,
 ) -> io::Result<u64> {
+    if first.placed.opposing(second.placed).is_none() {
+        return Ok(0);
+    }
     let mut count: u64 = 0;
     for (place, plate) in plates.all().iter().enumerate() {
         if let Some(placed) = on_place(first.placed, second.placed, place) {

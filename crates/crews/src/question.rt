@@ -1,5 +1,5 @@
 // What a crew can be asked about.
-ghost use Rattle.std.specs.Prelude.{◌≡◌, ◌-◌, ◌&&◌, length, nat_le, nat_lt, slice_index, slice_index_or};
+ghost use Rattle.std.specs.Prelude.{◌≡◌, ◌&&◌, nat_le, nat_lt, slice_index_or};
 ghost use Rattle.groups.specs.Rises.{climbing};
 ghost use Rattle.meaning.specs.Crews.{askable};
 
@@ -19,15 +19,15 @@ pub fn askable(plates: &[u32]) -> bool
 fn climbs(plates: &[u32]) -> bool
     ensures { result ≡ climbing 0 plates.now }
 {
-    plates.is_sorted_by(|low, high| low < high) && ends_fit(plates)
+    first_fits(plates) && plates.is_sorted_by(|low, high| low < high && *high <= HIGHEST_PLATE)
 }
 
-// Whether the first and the last plate, if there are any, are plates of levers.
-fn ends_fit(plates: &[u32]) -> bool
-    ensures { result ≡ (nat_lt 0 (slice_index_or plates.now 0 1) && nat_le (slice_index plates.now (length plates.now - 1)) 2097151) }
+// Whether the first plate, if there is one, is a plate of a lever.
+fn first_fits(plates: &[u32]) -> bool
+    ensures { result ≡ (nat_lt 0 (slice_index_or plates.now 0 1) && nat_le (slice_index_or plates.now 0 1) 2097151) }
 {
-    match (plates.first(), plates.last()) {
-        (Some(first), Some(last)) => *first > 0 && *last <= HIGHEST_PLATE,
-        _ => true,
+    match plates.first() {
+        Some(first) => *first > 0 && *first <= HIGHEST_PLATE,
+        None => true,
     }
 }

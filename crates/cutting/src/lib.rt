@@ -40,7 +40,7 @@ pub fn cut_list<C: Crew>(
     ensures within { AllWithin (length (fitted frame.entry.plates.now)) (groups_of lines.now) → AllWithin (length (fitted frame.entry.plates.now)) (groups_of result) }
 {
     let levers = levers_of(frame.plates);
-    let mut kept = Row::new(Placed::empty());
+    let mut kept: Row<Placed, MOST_LINES> = Row::new(Placed::empty());
     let mut rest = lines.all();
     while let Some((line, before)) = rest.split_last() {
         let search = Search {

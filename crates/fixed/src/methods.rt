@@ -63,6 +63,9 @@ impl<T: Copy + Ord, const N: usize> Row<T, N> {
         ensures room { is_ok result ≡ nat_lt (length (held self.old)) N }
         ensures after { held self.new ≡ (if is_ok result then behind_less T.cmp item (held self.old) else held self.old) }
     {
+        if self.count >= N {
+            return Err(Full);
+        }
         let at = less_in_front(self.all(), item);
         self.insert(at, item)
     }

@@ -34,7 +34,7 @@ refused_by (Some r) = Err (fault_of r Nowhere)
 -- what fitting plates one after the other answers: all of them, or why one cannot follow those before it, which all can
 abbrev pub FitsAs : List ℕ → Result Plates Fault → Type 0
 FitsAs ps (Ok f) = fitted f ≡ ps
-FitsAs ps (Err e) = (n : ℕ) × (n < length ps) × (climbing 0 (take n ps) ≡ true) × (refused_by (fit_refusal (take n ps) (slice_index ps n)) ≡ Err e)
+FitsAs ps (Err e) = (n : ℕ) × (n < length ps) × (n ≤ 32) × (climbing 0 (take n ps) ≡ true) × (refused_by (fit_refusal (take n ps) (slice_index ps n)) ≡ Err e)
 
 -- p is the lowest plate of the items that is not fitted
 pub record LowestMissing (ps : List ℕ) (is : List Item) (p : ℕ) : Type 0 where

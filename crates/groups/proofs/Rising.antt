@@ -1,5 +1,5 @@
 -- Items that rise: where a plate is looked for, and where a new item goes. Assumes nothing.
-use Rattle.std.proofs.Common.{◌≡◌, ℕ, zero, suc, ◌<◌, ◌≤◌, Bool, true, false, cond, eqb, ◌==◌, find, ltb, List, [], ◌∷◌, ◌++◌, length, take, drop, is_some, Some, None, Option, option_map, sym, refl, ap, ◌∙◌, ⊎_elim, one-add, arith}
+use Rattle.std.proofs.Common.{◌≡◌, ℕ, zero, suc, ◌<◌, ◌≤◌, Bool, true, false, cond, eqb, ltb, List, [], ◌∷◌, ◌++◌, length, get_or, take, drop, is_some, Some, None, Option, sym, refl, ap, ◌∙◌, ⊎_elim, one-add, arith}
 use Rattle.std.proofs.lemmas.Bool.{and_parts, and_from, lt-ltb, le-ltb, le-leb, eq-eqb, ne_eqb, cond-true, cond-false, ltb-true, leb-true, eqb-true, cases_order, cases_lt, cases_eq, not-true, true≢false}
 use Rattle.std.proofs.lemmas.List.Sums.{prefix_len-le-length}
 use Rattle.groups.specs.declared.items.Item.{Item}
@@ -58,14 +58,33 @@ place_more p x xs h = cond-true _ _ _ (lt-ltb _ _ h) ∙ one-add _
 place_here : (p : ℕ) (x : Item) (xs : List Item) → p ≤ x.plate → place_of p (x ∷ xs) ≡ 0
 place_here p x xs h = cond-false _ _ _ (le-ltb _ _ h)
 
--- the sign of the first item with the plate is the one that the items give it
-pub sign_of_found : (xs : List Item) (p : ℕ) → option_map (λ i. i.sign) (find (λ i. i.plate == p) xs) ≡ sign_at xs p
-sign_of_found [] p = refl
-sign_of_found (x ∷ xs) p = here (x.plate == p) (sign_of_found xs p)
-  where
-    here : (t : Bool) → option_map (λ i. i.sign) (find (λ i. i.plate == p) xs) ≡ sign_at xs p → option_map (λ i. i.sign) (cond t (Some x) (find (λ i. i.plate == p) xs)) ≡ cond t (Some x.sign) (sign_at xs p)
-    here true e = refl
-    here false e = e
+-- the item that stands at the place of p
+pub sign_found : (p : ℕ) (xs : List Item) (d : Item) (n : ℕ) → n ≡ place_of p xs → n < length xs → (get_or xs n d).plate ≡ p → sign_at xs p ≡ Some (get_or xs n d).sign
+sign_found p [] d n e h q = absurd (omega arith)
+sign_found p (x ∷ xs) d zero e h q = ⊎_elim (λ lt. absurd (omega (arith, place_more p x xs lt))) (λ le. cond-true _ _ _ (eq-eqb _ _ q)) (cases_lt x.plate p)
+sign_found p (x ∷ xs) d (suc n) e h q =
+    ⊎_elim
+    (λ lt. cond-false _ _ _ (ne_eqb x.plate p (λ q'. omega arith)) ∙ sign_found p xs d n (omega (arith, place_more p x xs lt)) (omega arith) q)
+    (λ le. absurd (omega (arith, place_here p x xs le)))
+    (cases_lt x.plate p)
+
+-- nothing else names p
+pub sign_missing : (p low : ℕ) (xs : List Item) (d : Item) (n : ℕ) → rising low xs ≡ true → n ≡ place_of p xs → (n < length xs → (get_or xs n d).plate ≡ p → ⊥) → sign_at xs p ≡ None
+sign_missing p low [] d n r e h = refl
+sign_missing p low (x ∷ xs) d zero r e h =
+    ⊎_elim
+    (λ lt. absurd (omega (arith, place_more p x xs lt)))
+    (λ le.
+    cond-false _ _ _ (ne_eqb x.plate p (h (omega arith)))
+    ∙ unnamed_below p x.plate xs le (rising_step low x xs r).rest)
+    (cases_lt x.plate p)
+sign_missing p low (x ∷ xs) d (suc n) r e h =
+    ⊎_elim
+    (λ lt.
+    cond-false _ _ _ (ne_eqb x.plate p (λ q. omega arith))
+    ∙ sign_missing p x.plate xs d n (rising_step low x xs r).rest (omega (arith, place_more p x xs lt)) (λ k q. h (omega arith) q))
+    (λ le. absurd (omega (arith, place_here p x xs le)))
+    (cases_lt x.plate p)
 
 -- a new item goes to its place
 pub insert_at : (x : Item) (xs : List Item) (n : ℕ) → n ≡ place_of x.plate xs → sign_at xs x.plate ≡ None → insert x xs ≡ take n xs ++ (x ∷ drop n xs)

@@ -1,6 +1,5 @@
 // What a spelled group answers, and how it takes one more item.
-ghost use Rattle.std.specs.Prelude.{◌≡◌, ◌+◌, ◌<◌, ◌≤◌, true, [], ◌∷◌, ◌++◌, length, take, drop, if◌then◌else◌, ◌==◌, find};
-ghost use Rattle.std.specs.Option.{option_map};
+ghost use Rattle.std.specs.Prelude.{◌≡◌, ◌+◌, ◌<◌, ◌≤◌, true, [], ◌∷◌, ◌++◌, length, take, drop, if◌then◌else◌};
 ghost use Rattle.groups.specs.declared.items.Item.{Item};
 ghost use Rattle.groups.specs.Items.{rising, sign_at, insert, place_of};
 ghost use Rattle.groups.specs.Groups.{items_of, takes};
@@ -76,21 +75,16 @@ impl Group {
     }
 }
 
-// The sign that items give a plate, if they name it. Apart from `sign_of`, whose edit would be refused in the answer here first.
+// The sign that rising items give a plate, if they name it: the first that is not below it tells. Apart from `sign_of`, whose edit
+// would be refused in the answers here first.
 fn sign_among(items: &[Item], plate: u32) -> Option<Sign>
+    requires { rising 0 items.now ≡ true }
     ensures { result ≡ sign_at items.now plate }
 {
-    first_with(items, plate)
-}
-
-// The sign of the first item with a plate, if there is one.
-fn first_with(items: &[Item], plate: u32) -> Option<Sign>
-    ensures { result ≡ option_map (λ (i : Item). i.sign) (find (λ (i : Item). i.plate == plate) items.now) }
-{
-    items
-        .iter()
-        .find(|item| item.plate == plate)
-        .map(|item| item.sign)
+    match items.get(place_of(items, plate)) {
+        Some(item) if item.plate == plate => Some(item.sign),
+        Some(_) | None => None,
+    }
 }
 
 // How many of the items stand before the place of a plate.

@@ -75,14 +75,20 @@ impl Placed {
     }
 }
 
-// Which of two signs comes first: + before - before *, and a sign before none, where the order of `Option` has none first.
+// Which of two signs comes first, by their ranks: which of two groups has a sign at their first difference is as good as chance, and
+// a `match` on both would be a branch that the processor guesses wrong. The table of the fan takes an eighth more time with it.
 fn order_of_signs(sign: Option<Sign>, other: Option<Sign>) -> Ordering
     ensures { MatchOrdering result (rank_if sign < rank_if other) (sign ≡ other) (rank_if other < rank_if sign) }
 {
-    match (sign, other) {
-        (Some(sign), Some(other)) => sign.cmp(&other),
-        (Some(_), None) => Ordering::Less,
-        (None, Some(_)) => Ordering::Greater,
-        (None, None) => Ordering::Equal,
+    rank(sign).cmp(&rank(other))
+}
+
+// The rank of a sign: + before - before *, and a sign before none, where the order of `Option` has none first.
+fn rank(sign: Option<Sign>) -> u8
+    ensures { result ≡ rank_if sign }
+{
+    match sign {
+        Some(sign) => sign as u8,
+        None => 3,
     }
 }

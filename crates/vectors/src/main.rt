@@ -2,7 +2,7 @@
 #![tactic(auto)]
 
 use entries::{answer_group, tell};
-use faults::{Refusal, TextFault};
+use faults::{Fault, Layer, Place, TextFault};
 use reading::reader::{read_group, read_plate};
 use std::alloc::Global;
 use std::io;
@@ -33,17 +33,17 @@ const GROUPS: [(&str, &str); 22] = [
     ("(5- 6-))", "1 no 3 at 7"),
 ];
 
-// Numbers where the text begins at byte 4, with the plate, or the refusal and its byte.
-const NUMBERS: [(&str, Result<u32, (Refusal, usize)>); 9] = [
+// Numbers where the text begins at byte 4, with the plate, or the refusal's number and its byte.
+const NUMBERS: [(&str, Result<u32, (u8, usize)>); 9] = [
     ("5", Ok(5)),
     ("2097151", Ok(2_097_151)),
-    ("2097152", Err((Refusal::Number, 4))),
-    ("05", Err((Refusal::Number, 4))),
-    ("0", Err((Refusal::Number, 4))),
-    ("", Err((Refusal::Number, 4))),
-    ("x", Err((Refusal::Number, 4))),
-    ("5 ", Err((Refusal::Mark, 5))),
-    ("2097151+", Err((Refusal::Mark, 11))),
+    ("2097152", Err((2, 4))),
+    ("05", Err((2, 4))),
+    ("0", Err((2, 4))),
+    ("", Err((2, 4))),
+    ("x", Err((2, 4))),
+    ("5 ", Err((3, 5))),
+    ("2097151+", Err((3, 11))),
 ];
 
 // The text in which every byte is tried in every position.
@@ -78,7 +78,7 @@ fn count_groups(rt: &HostRuntime) -> io::Result<u32> {
 fn count_numbers(rt: &HostRuntime) -> io::Result<u32> {
     let mut count: u32 = 0;
     for (text, expected) in NUMBERS {
-        let answer = expected.map_err(|(refusal, byte)| refusal.at_byte(byte));
+        let answer = expected.map_err(|(number, byte)| text_fault(number, byte));
         if read_plate(text.as_bytes(), 4) == answer {
             count = count.saturating_add(1);
         } else {
@@ -115,27 +115,39 @@ fn is_answer(text: &[u8], expected: &[u8]) -> bool {
     length.and_then(|n| buffer.get(..n)) == Some(expected)
 }
 
+// The fault that a text has at a byte, with the refusal's number as the rules give it: none of it comes from the reader that is
+// tried.
+fn text_fault(number: u8, byte: usize) -> TextFault {
+    TextFault {
+        fault: Fault {
+            number,
+            layer: Layer::Text,
+            place: Place::Byte(byte),
+        },
+    }
+}
+
 // The fault of the short text with a byte in a position, written down from the rules, case by case.
 fn fault_of(position: usize, byte: u8) -> Option<TextFault> {
     let digit = byte.is_ascii_digit();
     let sign = matches!(byte, b'+' | b'-' | b'*');
     match position {
         0 if byte == b'(' => None,
-        1 if byte == b'6' => Some(Refusal::Repeated.at_byte(4)),
+        1 if byte == b'6' => Some(text_fault(4, 4)),
         1 if digit && byte != b'0' => None,
-        1 => Some(Refusal::Number.at_byte(1)),
+        1 => Some(text_fault(2, 1)),
         2 if sign => None,
-        2 if digit => Some(Refusal::Mark.at_byte(3)),
+        2 if digit => Some(text_fault(3, 3)),
         3 if byte == b' ' => None,
-        3 if byte == b')' => Some(Refusal::Mark.at_byte(4)),
-        4 if byte == b'5' => Some(Refusal::Repeated.at_byte(4)),
+        3 if byte == b')' => Some(text_fault(3, 4)),
+        4 if byte == b'5' => Some(text_fault(4, 4)),
         4 if digit && byte != b'0' => None,
-        4 => Some(Refusal::Number.at_byte(4)),
+        4 => Some(text_fault(2, 4)),
         5 if sign => None,
-        5 if digit => Some(Refusal::Mark.at_byte(6)),
+        5 if digit => Some(text_fault(3, 6)),
         6 if byte == b')' => None,
-        6 if byte == b' ' => Some(Refusal::Number.at_byte(7)),
-        _ => Some(Refusal::Mark.at_byte(position)),
+        6 if byte == b' ' => Some(text_fault(2, 7)),
+        _ => Some(text_fault(3, position)),
     }
 }
 
@@ -145,7 +157,7 @@ fn long_number(heap: Global) -> io::Result<&'static str> {
     text[0] = b'(';
     text[4001] = b'+';
     text[4002] = b')';
-    if read_group(text.as_slice(), 0).err() == Some(Refusal::Number.at_byte(1)) {
+    if read_group(text.as_slice(), 0).err() == Some(text_fault(2, 1)) {
         Ok("refused at its first digit")
     } else {
         Ok("answered otherwise")

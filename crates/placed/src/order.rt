@@ -75,8 +75,7 @@ impl Placed {
     }
 }
 
-// Which of two signs comes first, by their ranks. Which of two groups has a sign at their first difference is as good as chance: a
-// `match` on both signs, which was tried, is a branch that the processor guesses wrong, and a table takes more time.
+// Which of two signs comes first, by their ranks: with a `match` on both signs, which was tried, a table took more time.
 fn order_of_signs(sign: Option<Sign>, other: Option<Sign>) -> Ordering
     ensures { MatchOrdering result (rank_if sign < rank_if other) (sign ≡ other) (rank_if other < rank_if sign) }
 {
